@@ -24,6 +24,7 @@ use Rattle.whole_node.specs.declared.node.WholeNode.{WholeNode}
 use Rattle.whole_node.specs.Starting.{first_map}
 use Rattle.world_book.specs.Books.{entries_of}
 use Rattle.cluster_world.specs.Books.{entries_seen}
+use Rattle.cluster_world.specs.Installs.{installs_in}
 use Rattle.cluster_world.specs.Lives.{of_node, CanWorkOn}
 use Rattle.cluster_world.specs.Maps.{AreMaps}
 use Rattle.cluster_world.specs.Opens.{AreHandedOn, Opened, OpenFails, Refused, IsOpenedOn, OpensNext, NextComes, AreOpened}
@@ -291,6 +292,7 @@ module _ {D : Type 0} (on : View D) (is_settled : D → Type 0) (only : (disk : 
         maps = subst (λ ls. AreMaps ls (first_slots plan.nodes (first_map plan) plan.nodes)) (sym lives_are) opened_maps;
         ready = subst (λ p. CanWorkOn on.seen p world.nodes.lives.items world.nodes.disks.items) (sym plan_is)
             (subst (λ ds. CanWorkOn on.seen plan world.nodes.lives.items ds) (sym disks_are) (subst (λ ls. CanWorkOn on.seen plan ls new) (sym lives_are) opened_ready));
+        installs = ap installs_in none_written;
       };
       handed = subst (λ ds. AreHandedOn on.seen old ds) (sym disks_are) opened_handed;
       quiet = λ k d d' a b. opened_quiet k d d' a (ap (λ ds. slice_get ds k) (sym disks_are) ∙ b);

@@ -447,11 +447,11 @@ module _ {D : Type 0} (on : View D) where
 
     -- All that the step leads to.
     module _ (is_settled : D → Type 0) (flying : InFlight) (early : nat_le letters_end flying.sent ≡ false) (book : Book) where
-      pub record FormDid (result : Result Said StepFault) (new : Nodes D) (flying' : InFlight) (book' : Book) : Type 0 where
+      pub record FormDid (roomy : Book) (result : Result Said StepFault) (new : Nodes D) (flying' : InFlight) (book' : Book) : Type 0 where
         pub did : (seconds : ℕ) → StepDid on result s (state_with old flying seconds book) (state_with new flying' seconds book')
         pub works : CanWorkOn on.seen new.plan new.lives.items new.disks.items
         pub settled : (seconds : ℕ) → AreSettled is_settled (state_with old flying seconds book) → AreSettled is_settled (state_with new flying' seconds book')
-        pub room : all_falls_left new.lives.items ≤ spare_of book'
+        pub spare : spare_of roomy + all_falls_left new.lives.items ≤ spare_of book' + all_falls_left old.lives.items + 1
 
       -- the book has room for what may be written
       module _ (roomy : Book) (wrote : entries_of roomy ≡ entries_of book) (room : all_falls_left old.lives.items + 1 ≤ spare_of roomy)
@@ -465,7 +465,7 @@ module _ {D : Type 0} (on : View D) where
               → (c : CutSlot on n (AreThese ch.life Down ch.disk ch.disk') old new new t (forms_rule learns_nothing h.installed h.promise letters) a (t.does.life_was ∙ was) flying flying seconds book book' w)
               → WholeTo (state_with old flying seconds book) (Err (fault.NoMemory (Some n))) new.lives.items w (cut_world w n c.disk c.front c.pending)
 
-          undone_by : ChangesNode n (AreThese ch.life Down ch.disk ch.disk') old new → flying' ≡ flying → IsEntered n roomy book' → Undone → FormDid (Err (fault.NoMemory (Some n))) new flying' book'
+          undone_by : ChangesNode n (AreThese ch.life Down ch.disk ch.disk') old new → flying' ≡ flying → IsEntered n roomy book' → Undone → FormDid roomy (Err (fault.NoMemory (Some n))) new flying' book'
           undone_by t flying_is entered undone =
               let rule : Rule = forms_rule learns_nothing h.installed h.promise letters in
               let was' : t.life ≡ Up a = t.does.life_was ∙ was in
@@ -481,11 +481,11 @@ module _ {D : Type 0} (on : View D) where
                     (λ w st. undone t seconds w st (work_undone on n (AreThese ch.life Down ch.disk ch.disk') old new new t rule a was' flying flying seconds book book' b letters did w st)));
                 works = down_ready on n (AreThese ch.life Down ch.disk ch.disk') old new t ready a was' fell;
                 settled = λ seconds. down_settled on n (AreThese ch.life Down ch.disk ch.disk') old new t ready a was' fell flying flying' seconds seconds book book' is_settled;
-                room = omega (arith, down_falls on n (AreThese ch.life Down ch.disk ch.disk') old new t ready a was' fell, room, entered.spare);
+                spare = omega (arith, down_falls on n (AreThese ch.life Down ch.disk ch.disk') old new t ready a was' fell, entered.spare);
               }
 
           pub answered_by : (what : Said) → IsFormed s what → (SentOff on old.plan letters None flying flying' mid new → (seconds : ℕ) → Formed P mid ch a was flying early seconds book book' what b letters h new flying') → Undone
-              → (r : Result Said StepFault) → AnswersSent on mid.plan n None what letters r mid flying roomy new flying' book' → FormDid r new flying' book'
+              → (r : Result Said StepFault) → AnswersSent on mid.plan n None what letters r mid flying roomy new flying' book' → FormDid roomy r new flying' book'
           answered_by what g formed undone (Ok it) (it_is, off, book_is) =
               let stays = formed_stays P mid ch a was b letters is h can in
               let sent : SentOff on old.plan letters None flying flying' mid new = subst (λ p. SentOff on p letters None flying flying' mid new) ch.plan off in
@@ -495,33 +495,33 @@ module _ {D : Type 0} (on : View D) where
                 works = subst (λ p. CanWorkOn on.seen p new.lives.items new.disks.items) (sym off.noticed.only.plan) off.noticed.works;
                 settled = λ seconds st. only_settled on (λ slots. all_missed Crowded slots (put_down letters (taken_out None flying)).left) mid new off.noticed.only flying flying' seconds seconds book' book' is_settled
                     (stays_settled on n P old mid ch ready a was b stays flying flying seconds seconds book book' is_settled settles st);
-                room = omega (arith, off.noticed.only.falls, stays_falls on n P old mid ch ready a was b stays, room, ap spare_of book_is);
+                spare = omega (arith, off.noticed.only.falls, stays_falls on n P old mid ch ready a was b stays, ap spare_of book_is);
               }
           answered_by what g formed undone (Err why) (why_is, turned, flying_is, entered) =
-              subst (λ x. FormDid (Err x) new flying' book') (sym why_is) (undone_by (turned_after n P Down old mid new ch turned) flying_is entered undone)
+              subst (λ x. FormDid roomy (Err x) new flying' book') (sym why_is) (undone_by (turned_after n P Down old mid new ch turned) flying_is entered undone)
 
         -- It is as it was.
         module _ (b : WholeNode) (is : ch.life' ≡ Up b) (alike : IsAsBefore a.mail b.mail) (untold : ch.disk' ≡ ch.disk) (can : WholeWorks (on.seen ch.disk') b) (book' : Book) (same : entries_of book' ≡ entries_of roomy) (spare : spare_of roomy ≤ spare_of book' + 1) where
-          kept_by : (why : StepFault) → ((seconds : ℕ) → StepDid on (Err why) s (state_with old flying seconds book) (state_with mid flying seconds book')) → FormDid (Err why) mid flying book'
+          kept_by : (why : StepFault) → ((seconds : ℕ) → StepDid on (Err why) s (state_with old flying seconds book) (state_with mid flying seconds book')) → FormDid roomy (Err why) mid flying book'
           kept_by why did =
               let stays = idle_stays P mid ch a was b is alike untold can in
               record {
                 did = did;
                 works = stays_ready on n P old mid ch ready a was b stays;
                 settled = λ seconds. stays_settled on n P old mid ch ready a was b stays flying flying seconds seconds book book' is_settled (λ was_settled. subst is_settled (sym untold) was_settled);
-                room = omega (arith, stays_falls on n P old mid ch ready a was b stays, room, spare);
+                spare = omega (arith, stays_falls on n P old mid ch ready a was b stays, spare);
               }
 
           abbrev pub Keeps : StepFault → Type 0
           Keeps why = (seconds : ℕ) → Idles P mid ch a was flying early seconds book book' b is alike untold (same ∙ wrote) why
 
-          pub worn_by : Keeps fault.Worn → FormDid (Err fault.Worn) mid flying book'
+          pub worn_by : Keeps fault.Worn → FormDid roomy (Err fault.Worn) mid flying book'
           worn_by whole = kept_by fault.Worn (λ seconds. form_idle_worn P mid ch a was flying early seconds book book' b is alike untold (same ∙ wrote) (whole seconds))
 
-          pub none_by : Keeps fault.NotAGroup → FormDid (Err fault.NotAGroup) mid flying book'
+          pub none_by : Keeps fault.NotAGroup → FormDid roomy (Err fault.NotAGroup) mid flying book'
           none_by whole = kept_by fault.NotAGroup (λ seconds. form_idle_none P mid ch a was flying early seconds book book' b is alike untold (same ∙ wrote) (whole seconds))
 
-          pub short_by : Keeps (fault.NoMemory None) → FormDid (Err (fault.NoMemory None)) mid flying book'
+          pub short_by : Keeps (fault.NoMemory None) → FormDid roomy (Err (fault.NoMemory None)) mid flying book'
           short_by whole = kept_by (fault.NoMemory None) (λ seconds. form_idle_short P mid ch a was flying early seconds book book' b is alike untold (same ∙ wrote) (whole seconds))
 
         -- It went down.
@@ -530,12 +530,12 @@ module _ {D : Type 0} (on : View D) where
           fell_so : FallsDown on n P old mid ch ready a was
           fell_so = record { is = down; told = told; later = later }
 
-          down_by : (result : Result Said StepFault) → ((seconds : ℕ) → StepDid on result s (state_with old flying seconds book) (state_with mid flying seconds book')) → FormDid result mid flying book'
+          down_by : (result : Result Said StepFault) → ((seconds : ℕ) → StepDid on result s (state_with old flying seconds book) (state_with mid flying seconds book')) → FormDid roomy result mid flying book'
           down_by result did = record {
             did = did;
             works = down_ready on n P old mid ch ready a was fell_so;
             settled = λ seconds. down_settled on n P old mid ch ready a was fell_so flying flying seconds seconds book book' is_settled;
-            room = omega (arith, down_falls on n P old mid ch ready a was fell_so, room, spare);
+            spare = omega (arith, down_falls on n P old mid ch ready a was fell_so, spare);
           }
 
           now_wrote : entries_of book' ≡ entries_of book ++ written.Down n ∷ []
@@ -548,18 +548,18 @@ module _ {D : Type 0} (on : View D) where
               → WholeTo (state_with old flying seconds book) result mid.lives.items w (cut_world w n c.disk c.front c.pending)
 
           pub failed_by : (installed : Option Membership) (promise : Option EpochId) → NodeStopped on (forms_rule learns_nothing installed promise []) a.mail ch.disk ch.disk' → Rose (on.faults ch.disk) (on.faults ch.disk')
-              → Cuts installed promise (Ok (said.Faulted n)) → FormDid (Ok (said.Faulted n)) mid flying book'
+              → Cuts installed promise (Ok (said.Faulted n)) → FormDid roomy (Ok (said.Faulted n)) mid flying book'
           failed_by installed promise stopped rose whole = down_by (Ok (said.Faulted n)) (λ seconds. form_failed P mid ch a was flying early seconds book book' installed promise [] down told later now_wrote
               (λ w st. work_stopped on n P old mid mid ch (forms_rule learns_nothing installed promise []) a was flying flying seconds book book' stopped w st) rose
               (λ w st. whole seconds w st (work_stopped on n P old mid mid ch (forms_rule learns_nothing installed promise []) a was flying flying seconds book book' stopped w st)))
 
           pub fell_by : (installed : Option Membership) (promise : Option EpochId) → NodeStopped on (forms_rule learns_nothing installed promise []) a.mail ch.disk ch.disk' → Cuts installed promise (Err (fault.NoMemory (Some n)))
-              → FormDid (Err (fault.NoMemory (Some n))) mid flying book'
+              → FormDid roomy (Err (fault.NoMemory (Some n))) mid flying book'
           fell_by installed promise stopped whole = down_by (Err (fault.NoMemory (Some n))) (λ seconds. form_fell P mid ch a was flying early seconds book book' installed promise [] down told later now_wrote
               (λ w st. work_stopped on n P old mid mid ch (forms_rule learns_nothing installed promise []) a was flying flying seconds book book' stopped w st)
               (λ w st. whole seconds w st (work_stopped on n P old mid mid ch (forms_rule learns_nothing installed promise []) a was flying flying seconds book book' stopped w st)))
 
-          pub fell_untold : ch.disk' ≡ ch.disk → Cuts None None (Err (fault.NoMemory (Some n))) → FormDid (Err (fault.NoMemory (Some n))) mid flying book'
+          pub fell_untold : ch.disk' ≡ ch.disk → Cuts None None (Err (fault.NoMemory (Some n))) → FormDid roomy (Err (fault.NoMemory (Some n))) mid flying book'
           fell_untold untold whole = down_by (Err (fault.NoMemory (Some n))) (λ seconds. form_fell P mid ch a was flying early seconds book book' None None [] down told later now_wrote
               (λ w st. untouched_cut P mid ch a was flying early seconds book book' untold None [] w st)
               (λ w st. whole seconds w st (untouched_cut P mid ch a was flying early seconds book book' untold None [] w st)))
@@ -618,7 +618,7 @@ module _ {D : Type 0} (on : View D) where
 
         module _ (space : nat_le (old.plan.nodes - 1) (room_left flying.flights) ≡ true) where
           pub opened_sent : (done : Grouped) → opened ≡ Ok done → (items : List Letter) → items ≡ done.letters → IsFormed s (said.Grouped done.epoch) → (r : Result Said StepFault) (new : Nodes D) (flying' : InFlight) (book' : Book)
-              → AnswersSent on mid.plan n None (said.Grouped done.epoch) items r mid flying roomy new flying' book' → FormDid r new flying' book'
+              → AnswersSent on mid.plan n None (said.Grouped done.epoch) items r mid flying roomy new flying' book' → FormDid roomy r new flying' book'
           unfolding groups_so
           opened_sent done e items same g r new flying' book' sent =
               let o = opens_as (Ok done) e in
@@ -643,8 +643,8 @@ module _ {D : Type 0} (on : View D) where
               (subst (λ ls. AnswersSent on mid.plan n None (said.Grouped done.epoch) ls r mid flying roomy new flying' book') same sent)
 
           pub opened_not : (why : NodeFault) → opened ≡ Err why → (result : Result Said StepFault) (book' : Book) → result ≡ said_of_fault n why → entries_of book' ≡ entries_of roomy ++ entries_of_fault n why
-              → spare_of roomy ≤ spare_of book' + 1 → FormDid result mid flying book'
-          opened_not why e result book' result_is entered spare = subst (λ x. FormDid x mid flying book') (sym result_is) (by why (opens_as (Err why) e) entered)
+              → spare_of roomy ≤ spare_of book' + 1 → FormDid roomy result mid flying book'
+          opened_not why e result book' result_is entered spare = subst (λ x. FormDid roomy x mid flying book') (sym result_is) (by why (opens_as (Err why) e) entered)
             where
               falls : ch.life' ≡ Down → (book' : Book) → (fresh : nat_le greatest_epoch (node_of a_node.maps).heard ≡ false) → (seconds : ℕ) (w : machine.World) (st : StateStandsFor on (state_with old flying seconds book) w)
                   → (c : CutSlot on n P_group old mid mid ch (forms_rule learns_nothing None (Some (next_of a_node)) []) a_node ch.does.0.was flying flying seconds book book' w)
@@ -672,7 +672,7 @@ module _ {D : Type 0} (on : View D) where
                   subst (λ (x : Step). LeadsWhole old.plan (tells_in on.seen (state_with old flying seconds book)) (Err result) x mid.lives.items v w) (sym s_is)
                   (record { now = v; seen = seen; maps = keep_maps n P_group old mid ch a_node b_node ch.does.0.was is (ap node_of same) v.slots maps; made = made })
 
-              by : (why : NodeFault) → Opens (Err why) → entries_of book' ≡ entries_of roomy ++ entries_of_fault n why → FormDid (said_of_fault n why) mid flying book'
+              by : (why : NodeFault) → Opens (Err why) → entries_of book' ≡ entries_of roomy ++ entries_of_fault n why → FormDid roomy (said_of_fault n why) mid flying book'
               by Disk (so, is, up) written_is =
                   let (may, stopped, fails) = so.failed in
                   failed_by roomy wrote room P_group mid ch a_node ch.does.0.was is stopped.stops.told fails.0 book' written_is spare None (Some (next_of a_node)) stopped fails.1
@@ -758,7 +758,7 @@ module _ {D : Type 0} (on : View D) where
             → (before : Life) → of_node old.lives.items n ≡ Some before → (joins : ℕ) → joins_at before ≡ Some joins → nat_le (joins - 1) (room_left flying.flights) ≡ true
             → (life : Life) → of_node mid.lives.items n ≡ Some life → (members : ℕ) → members ≡ members_seen (node_of_life (Some life))
             → IsFormed s (said.Concluded done.epoch members) → (r : Result Said StepFault) (new : Nodes D) (flying' : InFlight) (book' : Book)
-            → AnswersSent on mid.plan n None (said.Concluded done.epoch members) items r mid flying roomy new flying' book' → FormDid r new flying' book'
+            → AnswersSent on mid.plan n None (said.Concluded done.epoch members) items r mid flying roomy new flying' book' → FormDid roomy r new flying' book'
         concluded_sent done e items same before before_at joins joined space life at members members_are g r new flying' book' sent =
             let o = concludes_as (Ok (Some done)) e in
             let h = ends_of done o.0 in
@@ -785,7 +785,7 @@ module _ {D : Type 0} (on : View D) where
                 conclude_faults_are on n old flying seconds book w st v seen maps a_one at_one fit_one disk there (Some group) false false group_is early
                 (ap (λ k. nat_lt (room_left flying.flights) (k - 1)) size ∙ some_room (joins - 1) (room_left flying.flights) space)
 
-        pub concluded_none : concluded ≡ Ok None → FormDid (Err fault.NotAGroup) mid flying roomy
+        pub concluded_none : concluded ≡ Ok None → FormDid roomy (Err fault.NotAGroup) mid flying roomy
         concluded_none e =
             let o = concludes_as (Ok None) e in
             none_by roomy wrote room P_conclude mid ch a_one ch.does.0.was b_one o.1 (same_before a_one.mail b_one.mail o.0.2) ch.does.1 (o.2 tt) roomy refl (omega arith)
@@ -800,10 +800,10 @@ module _ {D : Type 0} (on : View D) where
             }))
 
         pub concluded_not : (why : NodeFault) → concluded ≡ Err why → (result : Result Said StepFault) (book' : Book) → result ≡ said_of_fault n why → entries_of book' ≡ entries_of roomy ++ entries_of_fault n why
-            → spare_of roomy ≤ spare_of book' + 1 → FormDid result mid flying book'
-        concluded_not why e result book' result_is entered spare = subst (λ x. FormDid x mid flying book') (sym result_is) (by why (concludes_as (Err why) e) entered)
+            → spare_of roomy ≤ spare_of book' + 1 → FormDid roomy result mid flying book'
+        concluded_not why e result book' result_is entered spare = subst (λ x. FormDid roomy x mid flying book') (sym result_is) (by why (concludes_as (Err why) e) entered)
           where
-            by : (why : NodeFault) → Concludes (Err why) → entries_of book' ≡ entries_of roomy ++ entries_of_fault n why → FormDid (said_of_fault n why) mid flying book'
+            by : (why : NodeFault) → Concludes (Err why) → entries_of book' ≡ entries_of roomy ++ entries_of_fault n why → FormDid roomy (said_of_fault n why) mid flying book'
             by Disk (so, is, up) written_is = absurd so
             by Worn (so, is, up) written_is = absurd so
             by (NoMemory true) (so, is, up) written_is =

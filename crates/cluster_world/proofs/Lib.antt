@@ -28,6 +28,7 @@ pub mod Hearing
 pub mod Holding
 pub mod InTurn
 pub mod Joined
+pub mod Installs
 pub mod Kept
 pub mod Lasting
 pub mod Longer

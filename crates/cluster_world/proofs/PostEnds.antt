@@ -66,7 +66,7 @@ pub record PostDid {D : Type 0} (on : View D) (is_settled : D → Type 0) (numbe
   pub did : (seconds : ℕ) → StepDid on result (step.Post number keep) (state_with old flying seconds book) (state_with new flying' seconds book')
   pub ready : CanWorkOn on.seen new.plan new.lives.items new.disks.items
   pub settled : (seconds : ℕ) → AreSettled is_settled (state_with old flying seconds book) → AreSettled is_settled (state_with new flying' seconds book')
-  pub room : all_falls_left new.lives.items ≤ spare_of book'
+  pub spare : spare_of book + all_falls_left new.lives.items ≤ spare_of book' + all_falls_left old.lives.items
 
 -- the node is one of those that there are
 up_within : {X : Type 0} (xs : List X) (n : ℕ) (x : X) → of_node xs n ≡ Some x → (1 ≤ n) × (n ≤ length xs)
@@ -157,7 +157,7 @@ module _ {D : Type 0} (on : View D) (is_settled : D → Type 0) (number : ℕ) (
     did = λ seconds. nobody_posted on old flying seconds book number keep letter here order early new flying' down noted left;
     ready = subst (λ p. CanWorkOn on.seen p new.lives.items new.disks.items) (sym noted.only.plan) noted.works;
     settled = λ seconds. only_settled on (λ slots. missed mishap.Down slots letter) old new noted.only flying flying' seconds seconds book book is_settled;
-    room = omega (arith, noted.only.falls, room);
+    spare = omega (arith, noted.only.falls);
   }
 
   module _ (mid : Nodes D) where
@@ -195,10 +195,10 @@ module _ {D : Type 0} (on : View D) (is_settled : D → Type 0) (number : ℕ) (
         settled_up flying' book' seconds = work_settled on letter.to P old mid new ch change only flying flying' seconds book book' is_settled
             (λ number up stayed. settles (stayed (ap life_seen was ∙ ap life.Up (sym boot) ∙ sym (ap life_seen is) ∙ up)))
 
-        room_up : (book' : Book) → book' ≡ book → all_falls_left new.lives.items ≤ spare_of book'
-        room_up book' e =
+        spare_up : (book' : Book) → book' ≡ book → spare_of book + all_falls_left new.lives.items ≤ spare_of book' + all_falls_left old.lives.items
+        spare_up book' e =
             let same : all_falls_left new.lives.items + falls_left ch.life ≡ all_falls_left old.lives.items + falls_left ch.life' = work_falls on letter.to P old mid new ch change only in
-            omega (arith, same, ap falls_left was, ap falls_left is, room, ap spare_of e)
+            omega (arith, same, ap falls_left was, ap falls_left is, ap spare_of e)
 
       -- it is down
       module _ (down : ch.life' ≡ Down) (change : List Slot → List Slot) (new : Nodes D) (only : OnlyTickets on change mid new) where
@@ -206,10 +206,10 @@ module _ {D : Type 0} (on : View D) (is_settled : D → Type 0) (number : ℕ) (
         settled_down flying' book' seconds = work_settled on letter.to P old mid new ch change only flying flying' seconds book book' is_settled
             (λ number up _. absurd (let never : life.Down ≡ life.Up number = sym (ap life_seen down) ∙ up in cc))
 
-        room_down : (book' : Book) → IsEntered letter.to book book' → all_falls_left new.lives.items ≤ spare_of book'
-        room_down book' entered =
+        spare_down : (book' : Book) → IsEntered letter.to book book' → spare_of book + all_falls_left new.lives.items ≤ spare_of book' + all_falls_left old.lives.items
+        spare_down book' entered =
             let same : all_falls_left new.lives.items + falls_left ch.life ≡ all_falls_left old.lives.items + falls_left ch.life' = work_falls on letter.to P old mid new ch change only in
-            omega (arith, same, ap falls_left was, ap falls_left down, room, entered.spare)
+            omega (arith, same, ap falls_left was, ap falls_left down, entered.spare)
 
     pub handed_within : (heard : Result Outbox NodeFault) → Handed heard → (1 ≤ letter.to) × (letter.to ≤ old.plan.nodes)
     handed_within heard ch = let (above, within) = up_within old.lives.items letter.to ch.life ch.was in (above, subst (λ k. letter.to ≤ k) old.all within)
@@ -298,7 +298,7 @@ module _ {D : Type 0} (on : View D) (is_settled : D → Type 0) (number : ℕ) (
             (answered_posted on old flying seconds book number keep letter here order early P mid ch a was did_rule o b is letters less did new flying' off posts (answers off seconds)));
         ready = subst (λ p. CanWorkOn on.seen p new.lives.items new.disks.items) (sym (off.noticed.only.plan ∙ ch.plan)) off.noticed.works;
         settled = settled_up P ch a was b is did.boot settles _ new off.noticed.only flying' book';
-        room = room_up P ch a was b is did.boot settles _ new off.noticed.only book' book_is;
+        spare = spare_up P ch a was b is did.boot settles _ new off.noticed.only book' book_is;
       }
       answered_by did_rule o (Err what) letters P ch a b was is settles less did posts runs answers falls (what_is, turned, flying_is, entered) =
           subst (λ f. Did (Err f)) (sym what_is)
@@ -317,10 +317,10 @@ module _ {D : Type 0} (on : View D) (is_settled : D → Type 0) (number : ℕ) (
                 ready = work_ready letter.to (AreThese ch.life Down ch.disk ch.disk') old new t on.seen works (λ node up. absurd (let never : Down ≡ Up node = sym t.does.life_is ∙ up in cc));
                 settled = λ seconds. work_settled on letter.to (AreThese ch.life Down ch.disk ch.disk') old new new t (λ slots. slots) (nothing_else on new) flying flying' seconds book book' is_settled
                     (λ boot up _. absurd (let never : life.Down ≡ life.Up boot = sym (ap life_seen t.does.life_is) ∙ up in cc));
-                room =
+                spare =
                     let same : all_falls_left new.lives.items + falls_left t.life ≡ all_falls_left old.lives.items + falls_left t.life' =
                     work_falls on letter.to (AreThese ch.life Down ch.disk ch.disk') old new new t (λ slots. slots) (nothing_else on new) in
-                    omega (arith, same, ap falls_left was', ap falls_left t.does.life_is, room, entered.spare);
+                    omega (arith, same, ap falls_left was', ap falls_left t.does.life_is, entered.spare);
               }
 
       -- the receiver threw it
@@ -333,7 +333,7 @@ module _ {D : Type 0} (on : View D) (is_settled : D → Type 0) (number : ℕ) (
             (stale_posted on old flying seconds book number keep letter here order early P mid ch a was b is h.as_before stay h.untouched new flying' h.thrown noted flying_is);
         ready = subst (λ p. CanWorkOn on.seen p new.lives.items new.disks.items) (sym (noted.only.plan ∙ ch.plan)) noted.works;
         settled = settled_up P ch a was b is (ap (λ n. n.boot) h.as_before.seen) settles _ new noted.only flying' book';
-        room = room_up P ch a was b is (ap (λ n. n.boot) h.as_before.seen) settles _ new noted.only book' book_is;
+        spare = spare_up P ch a was b is (ap (λ n. n.boot) h.as_before.seen) settles _ new noted.only book' book_is;
       }
       thrown_did why.Late letters P ch a b was is settles can stay mail h noted flying_is book_is =
           let only : OnlyTickets on (λ slots. slots) mid new = subst (λ (m : Nodes D). OnlyTickets on (λ slots. slots) mid m) (sym noted) (nothing_else on mid) in
@@ -342,7 +342,7 @@ module _ {D : Type 0} (on : View D) (is_settled : D → Type 0) (number : ℕ) (
                 (late_posted on old flying seconds book number keep letter here order early P mid ch a was b is h.as_before stay h.untouched new flying' (mail refl) h.thrown noted flying_is);
             ready = subst (λ (m : Nodes D). CanWorkOn on.seen m.plan m.lives.items m.disks.items) (sym noted) (ready_by (Some why.Late) letters P ch a b was is h can);
             settled = settled_up P ch a was b is (ap (λ n. n.boot) h.as_before.seen) settles _ new only flying' book';
-            room = room_up P ch a was b is (ap (λ n. n.boot) h.as_before.seen) settles _ new only book' book_is;
+            spare = spare_up P ch a was b is (ap (λ n. n.boot) h.as_before.seen) settles _ new only book' book_is;
           }
       thrown_did why.Down letters P ch a b was is settles can stay mail h noted flying_is book_is = absurd (neither _ _ _ h.thrown (λ e. cc) (λ e. cc))
       thrown_did why.Old letters P ch a b was is settles can stay mail h noted flying_is book_is = absurd (neither _ _ _ h.thrown (λ e. cc) (λ e. cc))
@@ -440,7 +440,7 @@ module _ {D : Type 0} (on : View D) (is_settled : D → Type 0) (number : ℕ) (
               (work_stopped on letter.to P old mid new ch did_rule a was flying flying' seconds book book' stopped) rose change only kept flying_is fails (whole seconds);
           ready = subst (λ p. CanWorkOn on.seen p new.lives.items new.disks.items) (sym (only.plan ∙ ch.plan)) ready;
           settled = settled_down P ch a was down _ new only flying' book';
-          room = room_down P ch a was down _ new only book' entered;
+          spare = spare_down P ch a was down _ new only book' entered;
         }
 
         fall_did : new ≡ mid → flying' ≡ flying → RunsBy old.plan number keep letter did_rule a
@@ -454,7 +454,7 @@ module _ {D : Type 0} (on : View D) (is_settled : D → Type 0) (number : ℕ) (
                   (work_stopped on letter.to P old mid new ch did_rule a was flying flying' seconds book book' stopped) same flying_is runs (whole seconds);
               ready = subst (λ (m : Nodes D). CanWorkOn on.seen m.plan m.lives.items m.disks.items) (sym same) (ready_down P ch a was down);
               settled = settled_down P ch a was down _ new only flying' book';
-              room = room_down P ch a was down _ new only book' entered;
+              spare = spare_down P ch a was down _ new only book' entered;
             }
 
       -- nothing was done
@@ -472,7 +472,7 @@ module _ {D : Type 0} (on : View D) (is_settled : D → Type 0) (number : ℕ) (
                 (short_posted on old flying seconds book number keep letter here order early P mid ch a was b is alike stay untold)));
             ready = subst (λ (m : Nodes D). CanWorkOn on.seen m.plan m.lives.items m.disks.items) (sym same) ready;
             settled = settled_up P ch a was b is boot settles _ new only flying' book';
-            room = room_up P ch a was b is boot settles _ new only book' book_is;
+            spare = spare_up P ch a was b is boot settles _ new only book' book_is;
           }
 
       -- its disk failed in it, whatever kind of letter it was

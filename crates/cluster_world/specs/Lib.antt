@@ -19,6 +19,7 @@ pub mod Missing
 pub mod Noting
 pub mod Ended
 pub mod Maps
+pub mod Installs
 pub mod Steps
 pub mod Telling
 pub mod Sure

@@ -10,6 +10,7 @@ use Rattle.whole_world.specs.First.{first_world}
 use Rattle.whole_node.specs.Starting.{first_map, IsFirstWhole}
 use Rattle.cluster_world.specs.Lives.{of_node}
 use Rattle.cluster_world.specs.Worlds.{state_of, plan_of, lives_of, disks_of, steps_of, CanMakeSteps, StandsFor}
+use Rattle.cluster_world.specs.Installs.{installs_of}
 use Rattle.cluster_world.specs.Maps.{AreMaps}
 use Rattle.cluster_world.specs.Steps.{AreSettled}
 use Rattle.cluster_world.specs.declared.life.Life.{Life}
@@ -36,13 +37,14 @@ pub record AreHandedOn {D : Type 0} (seen : D → Option (List ℕ)) (old new : 
   pub count : length new ≡ length old
   pub told : (k : ℕ) (disk disk' : D) → slice_get old k ≡ Some disk → slice_get new k ≡ Some disk' → IsToldAlike (seen disk) (seen disk')
 
--- The world is where a cluster begins: each node is up in its first boot and in the first epoch, which its disk promised, and nothing has been done.
+-- The world is where a cluster begins: each node is up in its first boot and in the first epoch, which its disk promised, nothing has been done, and the book has no epoch that was installed.
 pub record IsAtBeginning {D : Type 0} (on : View D) (plan : Plan) (world : World D) : Type 0 where
   pub plan_is : plan_of world ≡ plan
   pub steps : steps_of world ≡ 0
   pub stands : StandsFor on world (opening_world plan.nodes (first_map plan))
   pub maps : AreMaps (lives_of world) (first_world plan.nodes (first_map plan)).slots
   pub ready : CanMakeSteps on.seen world
+  pub installs : installs_of world ≡ []
 
 -- a world was opened over the disks of its plan
 pub record Opened {D : Type 0} (on : View D) (is_settled : D → Type 0) (plan : Plan) (disks : List D) (world : World D) : Type 0 where

@@ -19,6 +19,7 @@ use Rattle.session_model.specs.Events.{NodeLife}
 use Rattle.session_model.specs.Events.NodeLife.{Up}
 use Rattle.cluster_world.specs.Books.{IsLongerBook}
 use Rattle.cluster_world.specs.Flights.{weight_of_flights}
+use Rattle.cluster_world.specs.Installs.{BooksInstalls}
 use Rattle.cluster_world.specs.Worlds.{WorldState, state_of, life_in, node_in, disk_in, tells_in, steps_of, one_more, StateStandsFor}
 use Rattle.cluster_world.specs.Seen.{step_seen, outcome_seen, whole_step, whole_outcome}
 use Rattle.cluster_world.specs.Maps.{AreMaps}
@@ -200,7 +201,8 @@ pub record StepDid {D : Type 0} (on : View D) (result : Result Said StepFault) (
   pub leads : StepIsKnown on.seen old step → IsEnded step → (w : machine.World) → StateStandsFor on old w → LeadsTo on result step old new w
   pub cause : (w : machine.World) → StateStandsFor on old w → FaultHasCause on result step old new
 
--- What is known of a step: what it did, and that it was counted.
+-- What is known of a step: what it did, that the book has the epoch that was installed in it, and that it was counted.
 pub record IsStep {D : Type 0} (on : View D) (result : Result Said StepFault) (step : Step) (old new : World D) : Type 0 where
   pub did : StepDid on result step (state_of old) (state_of new)
+  pub installs : BooksInstalls step old new
   pub count : steps_of new ≡ one_more (steps_of old)

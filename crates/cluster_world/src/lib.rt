@@ -105,6 +105,7 @@ mod entries;
 mod fault;
 mod flight;
 mod flying;
+mod installs;
 mod laws;
 mod life;
 mod limits;

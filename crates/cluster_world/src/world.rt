@@ -72,9 +72,11 @@ fn opened<D>(alloc: Global, plan: Plan, lives: Vec<Life>, disks: Vec<D>, book: B
 
 impl<D: Disk> World<D> {
     ghost use Rattle.std.specs.Prelude.{◌≡◌, length, Option, None, IfOk, IfErr};
+    ghost use Rattle.world_book.specs.Books.{entries_of};
     ghost use Rattle.node_store.specs.Disks.{view_of};
     ghost use Rattle.cluster_world.specs.Worlds.{state_of, life_of, plan_of, disks_of, book_of, CanMakeSteps};
     ghost use Rattle.cluster_world.specs.Books.{booked_by};
+    ghost use Rattle.cluster_world.specs.Installs.{installs_in, installs_of, BooksInstalls};
     ghost use Rattle.cluster_world.specs.Steps.{IsStep, StepDid, AreSettled};
     ghost use Rattle.cluster_world.specs.Sure.{IsSurelyDone};
     ghost use Rattle.cluster_world.specs.Turns.{node_refusal, BeginsNone};
@@ -119,9 +121,11 @@ impl<D: Disk> World<D> {
         self.nodes.plan()
     }
 
-    /// What was acknowledged, deleted and dropped so far, and which nodes went down, came up and were lost.
+    /// What was acknowledged, deleted and dropped so far, which node installed which epoch, and which nodes went down, came up and
+    /// were lost.
     pub fn book(&self) -> &Book
-        ensures { booked_by result.now ≡ book_of self.now }
+        ensures seen { booked_by result.now ≡ book_of self.now }
+        ensures installs { installs_in (entries_of result.now) ≡ installs_of self.now }
     {
         &self.book
     }
@@ -135,6 +139,7 @@ impl<D: Disk> World<D> {
         ensures did { StepDid (view_of D.seen D.faults D.clock) result step.now (state_of self.old) (state_of self.new) }
         ensures settled { AreSettled D.settled (state_of self.old) → AreSettled D.settled (state_of self.new) }
         ensures steps { self.new.steps ≡ self.old.steps }
+        ensures installs { BooksInstalls step.now self.old self.new }
         ensures sure { IsSurelyDone (state_of self.old) step.now result }
     {
         match step {
@@ -209,6 +214,7 @@ impl<D: Disk> World<D> {
         ensures did { StepDid (view_of D.seen D.faults D.clock) result (Begin node call) (state_of self.old) (state_of self.new) }
         ensures settled { AreSettled D.settled (state_of self.old) → AreSettled D.settled (state_of self.new) }
         ensures steps { self.new.steps ≡ self.old.steps }
+        ensures installs { BooksInstalls (Begin node call) self.old self.new }
     {
         begin_call(
             alloc,
@@ -229,6 +235,7 @@ impl<D: Disk> World<D> {
         ensures did { StepDid (view_of D.seen D.faults D.clock) result step (state_of self.old) (state_of self.new) }
         ensures settled { AreSettled D.settled (state_of self.old) → AreSettled D.settled (state_of self.new) }
         ensures steps { self.new.steps ≡ self.old.steps }
+        ensures installs { BooksInstalls step self.old self.new }
         ensures sure { IsSurelyDone (state_of self.old) step result }
     {
         match step {
@@ -244,6 +251,7 @@ impl<D: Disk> World<D> {
         ensures did { StepDid (view_of D.seen D.faults D.clock) result step (state_of self.old) (state_of self.new) }
         ensures settled { AreSettled D.settled (state_of self.old) → AreSettled D.settled (state_of self.new) }
         ensures steps { self.new.steps ≡ self.old.steps }
+        ensures installs { BooksInstalls step self.old self.new }
         ensures sure { IsSurelyDone (state_of self.old) step result }
     {
         if let Some(fault) = self.nodes.refuses(&step) {

@@ -4,6 +4,7 @@ ghost use Rattle.node_store.specs.Disks.{view_of};
 ghost use Rattle.node_tickets.specs.Seen.{ask_seen};
 ghost use Rattle.world_book.specs.Books.{entries_of as all_of, spare_of};
 ghost use Rattle.cluster_world.specs.Flights.{InFlight};
+ghost use Rattle.cluster_world.specs.Installs.{installs_in, installs_booked};
 ghost use Rattle.cluster_world.specs.Lives.{all_falls_left, CanWorkOn};
 ghost use Rattle.cluster_world.specs.Worlds.{state_with, life_among};
 ghost use Rattle.cluster_world.specs.Turns.{node_refusal};
@@ -41,6 +42,7 @@ pub(crate) fn node_of(ticket: &Ticket) -> NodeNo
 fn entries_at(alloc: Global, life: &Life, ticket: &Ticket) -> Result<Vec<Entry>, AllocError>
     requires up { IsUpWhole life.now }
     ensures fit { IfOk result (λ entries. AreForTicket ticket.now life.now entries.items) }
+    ensures installs { IfOk result (λ entries. installs_in entries.items ≡ []) }
     ensures done { OnErr result (IsDoneAt ticket.now life.now) }
 {
     match life {
@@ -128,6 +130,7 @@ pub(crate) fn ask_for<D: Disk>(
     ensures ready { CanWorkOn D.seen nodes.new.plan nodes.new.lives.items nodes.new.disks.items }
     ensures settled { (flying : InFlight) (seconds : ℕ) → AreSettled D.settled (state_with nodes.old flying seconds book.old) → AreSettled D.settled (state_with nodes.new flying seconds book.new) }
     ensures room { all_falls_left nodes.new.lives.items ≤ spare_of book.new }
+    ensures installs { installs_booked book.new ≡ installs_booked book.old }
 {
     let entries = entries_at(alloc, nodes.at(node_of(ticket)), ticket)?;
     make_room(book, entries.len(), nodes.most_falls())?;

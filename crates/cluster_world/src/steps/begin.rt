@@ -10,6 +10,7 @@ ghost use Rattle.world_book.specs.Books.{entries_of as all_of, spare_of};
 ghost use Rattle.world_book.specs.declared.entry.Entry.TheVariants as written;
 ghost use Rattle.cluster_world.specs.Lives.{all_falls_left, CanWorkOn};
 ghost use Rattle.cluster_world.specs.Books.{entries_seen};
+ghost use Rattle.cluster_world.specs.Installs.{installs_in, installs_booked};
 ghost use Rattle.cluster_world.specs.Worlds.{state_with, life_among};
 ghost use Rattle.cluster_world.specs.Turns.{node_refusal};
 ghost use Rattle.cluster_world.specs.Unfinished.{said_of_fault};
@@ -86,7 +87,8 @@ fn struck(user: &Name, item: &Item) -> Result<Entry, AllocError>
 
 // The entries of all of them.
 fn all_struck(alloc: Global, user: &Name, items: &[Item]) -> Result<Vec<Entry>, AllocError>
-    ensures { IfOk result (λ entries. entries_seen entries.items ≡ struck_entries user.now (struck_of items.now)) }
+    ensures seen { IfOk result (λ entries. entries_seen entries.items ≡ struck_entries user.now (struck_of items.now)) }
+    ensures installs { IfOk result (λ entries. installs_in entries.items ≡ []) }
 {
     let mut entries = Vec::new(alloc);
     for item in items {
@@ -97,7 +99,8 @@ fn all_struck(alloc: Global, user: &Name, items: &[Item]) -> Result<Vec<Entry>, 
 
 /// The entries of the book for what the call is to delete.
 fn struck_in(alloc: Global, call: &Call) -> Result<Vec<Entry>, AllocError>
-    ensures { IfOk result (λ entries. entries_seen entries.items ≡ strikes_of_call (call_seen call.now)) }
+    ensures seen { IfOk result (λ entries. entries_seen entries.items ≡ strikes_of_call (call_seen call.now)) }
+    ensures installs { IfOk result (λ entries. installs_in entries.items ≡ []) }
 {
     match call {
         Call::Strike { user, items } => all_struck(alloc, user, items.as_slice()),
@@ -286,6 +289,7 @@ pub(crate) fn begin_call<D: Disk>(
     ensures ready { CanWorkOn D.seen nodes.new.plan nodes.new.lives.items nodes.new.disks.items }
     ensures settled { AreSettled D.settled (state_with nodes.old flying.old seconds book.old) → AreSettled D.settled (state_with nodes.new flying.new seconds book.new) }
     ensures room { all_falls_left nodes.new.lives.items ≤ spare_of book.new }
+    ensures installs { installs_booked book.new ≡ installs_booked book.old }
 {
     if is_worn(flying.sent()) {
         return Err(StepFault::Worn);

@@ -3,6 +3,7 @@ ghost use Rattle.std.specs.Prelude.{◌≡◌, ◌≤◌, ℕ, None, Ok};
 ghost use Rattle.node_store.specs.Disks.{view_of};
 ghost use Rattle.world_book.specs.Books.{spare_of};
 ghost use Rattle.cluster_world.specs.Flights.{InFlight};
+ghost use Rattle.cluster_world.specs.Installs.{installs_booked};
 ghost use Rattle.cluster_world.specs.Lives.{all_falls_left, CanWorkOn};
 ghost use Rattle.cluster_world.specs.Worlds.{state_with, life_among};
 ghost use Rattle.cluster_world.specs.Turns.{node_refusal};
@@ -24,6 +25,7 @@ pub(crate) fn crash_node<D: Disk>(nodes: &mut Nodes<D>, book: &mut Book, node: N
     ensures ready { CanWorkOn D.seen nodes.old.plan nodes.old.lives.items nodes.old.disks.items → CanWorkOn D.seen nodes.new.plan nodes.new.lives.items nodes.new.disks.items }
     ensures settled { (flying : InFlight) (seconds : ℕ) → AreSettled D.settled (state_with nodes.old flying seconds book.old) → AreSettled D.settled (state_with nodes.new flying seconds book.new) }
     ensures room { all_falls_left nodes.new.lives.items ≤ spare_of book.new }
+    ensures installs { installs_booked book.new ≡ installs_booked book.old }
 {
     nodes.turn(node, Life::Down);
     book.add(Entry::Down { node });

@@ -1,6 +1,7 @@
 //! What is said where a node did not do its work, and what the book has of it.
 ghost use Rattle.std.specs.Prelude.{◌≡◌, ◌+◌, ◌≤◌, ◌<◌, ◌++◌, MatchBool};
 ghost use Rattle.world_book.specs.Books.{entries_of, spare_of};
+ghost use Rattle.cluster_world.specs.Installs.{installs_booked};
 ghost use Rattle.cluster_world.specs.Posts.{IsEntered};
 ghost use Rattle.cluster_world.specs.Unfinished.{said_of_fault, takes_down, entries_of_fault};
 
@@ -56,6 +57,7 @@ pub(crate) fn tell_fault(book: &mut Book, node: NodeNo, fault: NodeFault) -> Res
     requires room { 0 < spare_of book.old }
     ensures said { result ≡ said_of_fault node fault }
     ensures entries { entries_of book.new ≡ entries_of book.old ++ entries_of_fault node fault }
+    ensures installs { installs_booked book.new ≡ installs_booked book.old }
     ensures spare { spare_of book.old ≤ spare_of book.new + 1 }
 {
     note_fall(book, node, fault);

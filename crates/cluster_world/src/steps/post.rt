@@ -1,5 +1,5 @@
 //! A letter is handed to its receiver.
-ghost use Rattle.std.specs.Prelude.{◌≡◌, ◌≤◌, ◌<◌, ℕ, All, true, Some, IfOk, is_some};
+ghost use Rattle.std.specs.Prelude.{◌≡◌, ◌+◌, ◌≤◌, ◌<◌, ℕ, All, true, Some, IfOk, is_some};
 ghost use Rattle.mail_base.specs.Bodies.{body_seen};
 ghost use Rattle.node_store.specs.Disks.{view_of};
 ghost use Rattle.cluster_world.specs.Hears.{CanBeHeard, AllCanBeHeard};
@@ -9,6 +9,7 @@ ghost use Rattle.world_book.specs.Books.{spare_of};
 ghost use Rattle.cluster_world.specs.Flights.{taken_out};
 ghost use Rattle.cluster_world.specs.Lives.{is_up_life, all_falls_left, CanWorkOn};
 ghost use Rattle.cluster_world.specs.Worlds.{life_among, state_with};
+ghost use Rattle.cluster_world.specs.Installs.{installs_booked, AddsInstalls};
 ghost use Rattle.cluster_world.specs.Changes.{ChangesNode, IsTurnedTo};
 ghost use Rattle.cluster_world.specs.Posts.{out_of, HearsAtNode, mishap_of_thrown, mishap_of_fault, mishap_of, IsEntered, IsNotedIf, AnswersSent, EndsThrown, EndsHeard, LeavesIfFailed, EndsStopped, EndsPost};
 ghost use Rattle.cluster_world.specs.Steps.{StepDid, AreSettled};
@@ -18,6 +19,7 @@ ghost use Rattle.cluster_world.specs.declared.fault.StepFault.TheVariants as fau
 
 use crate::fault::StepFault;
 use crate::flying::{Flying, is_worn};
+use crate::installs::{enter_install, epoch_at, hearer_of_install};
 use crate::life::Life;
 use crate::mishaps::note_in;
 use crate::nodes::{Nodes, place_of};
@@ -301,9 +303,8 @@ fn end_post<D: Disk>(
     }
 }
 
-/// Hands a letter to its receiver. It leaves, or is kept in flight, so that it can be posted again; where memory runs out it
-/// stays. Its ticket has a mishap where the receiver is not up, has another epoch, or has a disk fault.
-pub(crate) fn post_letter<D: Disk>(
+// Hands a letter to its receiver. Of what the receiver may install the book has nothing yet.
+fn hand_letter<D: Disk>(
     alloc: Global,
     nodes: &mut Nodes<D>,
     flying: &mut Flying,
@@ -316,7 +317,8 @@ pub(crate) fn post_letter<D: Disk>(
     ensures did { (seconds : ℕ) → StepDid (view_of D.seen D.faults D.clock) result (step.Post number keep) (state_with nodes.old flying.old seconds book.old) (state_with nodes.new flying.new seconds book.new) }
     ensures ready { CanWorkOn D.seen nodes.new.plan nodes.new.lives.items nodes.new.disks.items }
     ensures settled { (seconds : ℕ) → AreSettled D.settled (state_with nodes.old flying.old seconds book.old) → AreSettled D.settled (state_with nodes.new flying.new seconds book.new) }
-    ensures room { all_falls_left nodes.new.lives.items ≤ spare_of book.new }
+    ensures spare { spare_of book.old + all_falls_left nodes.new.lives.items ≤ spare_of book.new + all_falls_left nodes.old.lives.items }
+    ensures installs { installs_booked book.new ≡ installs_booked book.old }
 {
     let Some(letter) = flying.letter(number) else {
         return Err(StepFault::NoSuchLetter);
@@ -341,4 +343,33 @@ pub(crate) fn post_letter<D: Disk>(
         out_of(number, keep),
         heard,
     )
+}
+
+/// Hands a letter to its receiver. It leaves, or is kept in flight, so that it can be posted again; where memory runs out it
+/// stays. Its ticket has a mishap where the receiver is not up, has another epoch, or has a disk fault.
+/// Where it is an Install that the receiver takes up, the book has that.
+pub(crate) fn post_letter<D: Disk>(
+    alloc: Global,
+    nodes: &mut Nodes<D>,
+    flying: &mut Flying,
+    book: &mut Book,
+    number: u64,
+    keep: bool,
+) -> Result<Said, StepFault>
+    requires ready { CanWorkOn D.seen nodes.old.plan nodes.old.lives.items nodes.old.disks.items }
+    requires room { all_falls_left nodes.old.lives.items ≤ spare_of book.old }
+    ensures did { (seconds : ℕ) → StepDid (view_of D.seen D.faults D.clock) result (step.Post number keep) (state_with nodes.old flying.old seconds book.old) (state_with nodes.new flying.new seconds book.new) }
+    ensures ready { CanWorkOn D.seen nodes.new.plan nodes.new.lives.items nodes.new.disks.items }
+    ensures settled { (seconds : ℕ) → AreSettled D.settled (state_with nodes.old flying.old seconds book.old) → AreSettled D.settled (state_with nodes.new flying.new seconds book.new) }
+    ensures room { all_falls_left nodes.new.lives.items ≤ spare_of book.new }
+    ensures installs { AddsInstalls (step.Post number keep) flying.old.flights nodes.old.lives.items book.old nodes.new.lives.items book.new }
+{
+    let Some(node) = hearer_of_install(flying, number) else {
+        return hand_letter(alloc, nodes, flying, book, number, keep);
+    };
+    book.reserve(nodes.most_falls() + 1)?;
+    let was = epoch_at(nodes, node);
+    let said = hand_letter(alloc, nodes, flying, book, number, keep);
+    enter_install(nodes, book, node, was);
+    said
 }

@@ -5,6 +5,7 @@ ghost use Rattle.whole_node.specs.Hearing.{FitsMaps};
 ghost use Rattle.cluster_world.specs.Hears.{AllCanBeHeard};
 ghost use Rattle.world_book.specs.Books.{spare_of};
 ghost use Rattle.cluster_world.specs.Asking.{IsUpWhole};
+ghost use Rattle.cluster_world.specs.Installs.{installs_booked};
 ghost use Rattle.cluster_world.specs.Lives.{all_falls_left, CanWorkOn};
 ghost use Rattle.cluster_world.specs.Worlds.{state_with, life_among};
 ghost use Rattle.cluster_world.specs.Turns.{node_refusal};
@@ -123,6 +124,7 @@ pub(crate) fn push_states<D: Disk>(
     ensures ready { CanWorkOn D.seen nodes.new.plan nodes.new.lives.items nodes.new.disks.items }
     ensures settled { (seconds : ℕ) → AreSettled D.settled (state_with nodes.old flying.old seconds book.old) → AreSettled D.settled (state_with nodes.new flying.new seconds book.new) }
     ensures room { all_falls_left nodes.new.lives.items ≤ spare_of book.new }
+    ensures installs { installs_booked book.new ≡ installs_booked book.old }
 {
     if is_worn(flying.sent()) {
         return Err(StepFault::Worn);

@@ -3,6 +3,7 @@ ghost use Rattle.std.specs.Prelude.{◌≡◌, ◌+◌, ◌≤◌, ◌<◌, ◌+
 ghost use Rattle.mail_model.specs.Identity.Key.{Message};
 ghost use Rattle.node_store.specs.Disks.{view_of};
 ghost use Rattle.world_book.specs.Books.{entries_of, spare_of};
+ghost use Rattle.cluster_world.specs.Installs.{installs_booked};
 ghost use Rattle.cluster_world.specs.Lives.{all_falls_left, CanWorkOn};
 ghost use Rattle.cluster_world.specs.Worlds.{state_with, life_among};
 ghost use Rattle.cluster_world.specs.Turns.{node_refusal};
@@ -52,6 +53,7 @@ fn tell(book: &mut Book, node: NodeNo, did: Result<bool, NodeFault>) -> Result<S
     requires room { 0 < spare_of book.old }
     ensures said { result ≡ said_of_widening node did }
     ensures entries { entries_of book.new ≡ entries_of book.old ++ entries_of_widening node did }
+    ensures installs { installs_booked book.new ≡ installs_booked book.old }
     ensures spare { spare_of book.old ≤ spare_of book.new + 1 }
 {
     match did {
@@ -78,6 +80,7 @@ pub(crate) fn widen_copy<D: Disk>(
     ensures ready { CanWorkOn D.seen nodes.new.plan nodes.new.lives.items nodes.new.disks.items }
     ensures settled { (seconds : ℕ) → AreSettled D.settled (state_with nodes.old flying.now seconds book.old) → AreSettled D.settled (state_with nodes.new flying.now seconds book.new) }
     ensures room { all_falls_left nodes.new.lives.items ≤ spare_of book.new }
+    ensures installs { installs_booked book.new ≡ installs_booked book.old }
 {
     if is_worn(flying.sent()) {
         return Err(StepFault::Worn);

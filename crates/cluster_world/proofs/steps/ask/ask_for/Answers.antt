@@ -12,6 +12,8 @@ use Rattle.cluster_world.specs.declared.step.Step.TheVariants as step
 use Rattle.cluster_world.specs.declared.fault.StepFault.TheVariants as fault
 use Rattle.cluster_world.proofs.Same.{none_done}
 use Rattle.cluster_world.proofs.Asked.{asked_did, none_stood, asked_room, asked_ready, asked_settled, up_whole, if_there, same_book, done_in_world, entries_done}
+use Rattle.cluster_world.specs.Installs.{installs_in}
+use Rattle.cluster_world.proofs.Installs.{adds_none, if_adds_none}
 use Rattle.cluster_world.proofs.steps.ask.ask_for.Goals as goal
 
 pub entries_at-requires : goal.entries_at-requires
@@ -102,3 +104,9 @@ returns-in_err-make_room-clause-sure g c = λ flying seconds.
 
 pub returns-in_err-make_room-clause-room : goal.returns-in_err-make_room-clause-room
 returns-in_err-make_room-clause-room g c = omega (arith, c.requires.room, c.in_err-make_room.ensures.same)
+
+pub returns-clause-installs : goal.returns-clause-installs
+returns-clause-installs g c =
+    let items = c.in_ok-entries.entries.items in
+    adds_none c.make_room.new.book c.enter.new.book (if confirms (ask_seen c.in-Some.ask) then items else []) c.enter.ensures.entries (if_adds_none (confirms (ask_seen c.in-Some.ask)) items c.in_ok-entries.ensures.installs)
+    ∙ ap installs_in c.make_room.ensures.entries

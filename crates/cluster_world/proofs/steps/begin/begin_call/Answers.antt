@@ -9,6 +9,8 @@ use Rattle.cluster_world.proofs.Same.{none_done}
 use Rattle.cluster_world.proofs.Asked.{same_book}
 use Rattle.cluster_world.proofs.BeginParts.{rule_of, begin_ready, begin_heard}
 use Rattle.cluster_world.proofs.BeginEnds.{begin_late, begun_did, concluded_ready, concluded_room, concluded_settled}
+use Rattle.cluster_world.specs.Installs.{installs_in}
+use Rattle.cluster_world.proofs.Installs.{begin_adds_none}
 use Rattle.cluster_world.proofs.steps.begin.begin_call.Goals as goal
 
 pub returns-then-is_worn-clause-did : goal.returns-then-is_worn-clause-did
@@ -45,7 +47,7 @@ conclude-requires-clause-heard g c =
 pub returns-clause-did : goal.returns-clause-did
 returns-clause-did g c =
     begun_did (view_of g.D.Disk.seen g.D.Disk.faults g.D.Disk.clock) g.D.Disk.settled c.args.node c.args.call c.args.seconds c.args.nodes.now c.begin_in-did.new.nodes c.requires.fit c.requires.ready c.begin_in-did.result c.begin_in-did.ensures.begins
-    c.args.flying.now c.args.book.now (ap (nat_le letters_end) (sym c.sent.ensures) ∙ sym c.is_worn.ensures ∙ c.if-is_worn.false) (rule_of _ c.args.nodes.now c.nodes.view_is (call_seen c.args.call) (c.if-not-can_begin.ensures.rule refl)) c.in_ok-entries.entries.items c.in_ok-entries.ensures c.reserve.new.self c.reserve.ensures.entries
+    c.args.flying.now c.args.book.now (ap (nat_le letters_end) (sym c.sent.ensures) ∙ sym c.is_worn.ensures ∙ c.if-is_worn.false) (rule_of _ c.args.nodes.now c.nodes.view_is (call_seen c.args.call) (c.if-not-can_begin.ensures.rule refl)) c.in_ok-entries.entries.items c.in_ok-entries.ensures.seen c.reserve.new.self c.reserve.ensures.entries
     c.conclude.new.nodes c.conclude.new.flying c.conclude.new.book c.conclude.result c.conclude.ensures.concludes
 
 pub returns-clause-ready : goal.returns-clause-ready
@@ -63,3 +65,9 @@ returns-clause-room g c =
     concluded_room (view_of g.D.Disk.seen g.D.Disk.faults g.D.Disk.clock) g.D.Disk.settled c.args.node c.args.call c.args.seconds c.args.nodes.now c.begin_in-did.new.nodes c.requires.fit c.requires.ready c.begin_in-did.result c.begin_in-did.ensures.begins
     c.in_ok-entries.entries.items c.conclude.result c.args.flying.now c.reserve.new.self c.conclude.new.nodes c.conclude.new.flying c.conclude.new.book c.conclude.ensures.concludes
     c.most_falls.result _ c.most_falls.ensures.most (omega (arith, c.in_ok-reserve.ensures.spare, c.conclude.ensures.spare, c.len.ensures))
+
+pub returns-clause-installs : goal.returns-clause-installs
+returns-clause-installs g c =
+    begin_adds_none (view_of g.D.Disk.seen g.D.Disk.faults g.D.Disk.clock) c.args.node c.in_ok-entries.entries.items c.conclude.result c.begin_in-did.new.nodes c.args.flying.now c.reserve.new.self
+    c.conclude.new.nodes c.conclude.new.flying c.conclude.new.book c.begin_in-did.result c.in_ok-entries.ensures.installs c.conclude.ensures.concludes
+    ∙ ap installs_in c.reserve.ensures.entries

@@ -1,4 +1,4 @@
-use Rattle.std.proofs.Common.{◌∙◌, ◌-◌, ap, refl, sym, arith, nat_le}
+use Rattle.std.proofs.Common.{◌∙◌, ◌-◌, None, ap, refl, sym, arith, nat_le}
 use Rattle.std.proofs.lemmas.Result.{err_from_is_err_and}
 use Rattle.cluster_model.specs.Steps.{letters_end}
 use Rattle.whole_world.specs.Steps.{room_left}
@@ -9,6 +9,8 @@ use Rattle.cluster_world.proofs.Same.{none_done}
 use Rattle.cluster_world.proofs.Asked.{same_book}
 use Rattle.cluster_world.proofs.Grouping.{group_forms, group_formed, form_worn, form_crowded, opened_ready, opened_within, opened_sent, opened_not}
 use Rattle.cluster_world.proofs.WholeGroups.{group_worn, group_used, group_crowded}
+use Rattle.cluster_world.specs.Installs.{installs_in}
+use Rattle.cluster_world.proofs.Installs.{sent_adds_none}
 use Rattle.cluster_world.proofs.steps.group.group_node.Goals as goal
 
 pub returns-then-is_worn-clause-did : goal.returns-then-is_worn-clause-did
@@ -56,9 +58,14 @@ returns-in-Ok-clause-settled g c = (opened_sent (view_of g.D.Disk.seen g.D.Disk.
     c.in-Ok.done c.in-Ok.is c.into_vec.result.items c.into_vec.ensures (group_formed (view_of g.D.Disk.seen g.D.Disk.faults g.D.Disk.clock) c.args.node c.in-Ok.done.epoch) c.send_answers.result c.send_answers.new.nodes c.send_answers.new.flying c.send_answers.new.book c.send_answers.ensures).settled
 
 pub returns-in-Ok-clause-room : goal.returns-in-Ok-clause-room
-returns-in-Ok-clause-room g c = (opened_sent (view_of g.D.Disk.seen g.D.Disk.faults g.D.Disk.clock) c.args.node (step.Group c.args.node) (group_forms (view_of g.D.Disk.seen g.D.Disk.faults g.D.Disk.clock) c.args.node) c.args.nodes.now c.requires.fit c.requires.ready g.D.Disk.settled c.args.flying.now (ap (nat_le letters_end) (sym c.sent.ensures) ∙ sym c.is_worn.ensures ∙ c.if-is_worn.false) c.args.book.now refl c.reserve.new.self c.reserve.ensures.entries (omega (arith, c.most_falls.ensures.most, c.in_ok-reserve.ensures.spare)) c.open_in.result c.open_in.new.nodes c.open_in.ensures.does
-    (ap (λ k. nat_le k (room_left c.args.flying.now.flights)) (ap (λ k. k - 1) (sym c.args.nodes.now.all ∙ sym c.args.nodes.now.lives.ok.0 ∙ sym c.len.ensures) ∙ sym c.saturating_sub.ensures) ∙ sym c.find_room.ensures ∙ c.if-not-find_room.false)
-    c.in-Ok.done c.in-Ok.is c.into_vec.result.items c.into_vec.ensures (group_formed (view_of g.D.Disk.seen g.D.Disk.faults g.D.Disk.clock) c.args.node c.in-Ok.done.epoch) c.send_answers.result c.send_answers.new.nodes c.send_answers.new.flying c.send_answers.new.book c.send_answers.ensures).room
+returns-in-Ok-clause-room g c = omega (
+  arith,
+  c.most_falls.ensures.most,
+  c.in_ok-reserve.ensures.spare,
+  (opened_sent (view_of g.D.Disk.seen g.D.Disk.faults g.D.Disk.clock) c.args.node (step.Group c.args.node) (group_forms (view_of g.D.Disk.seen g.D.Disk.faults g.D.Disk.clock) c.args.node) c.args.nodes.now c.requires.fit c.requires.ready g.D.Disk.settled c.args.flying.now (ap (nat_le letters_end) (sym c.sent.ensures) ∙ sym c.is_worn.ensures ∙ c.if-is_worn.false) c.args.book.now refl c.reserve.new.self c.reserve.ensures.entries (omega (arith, c.most_falls.ensures.most, c.in_ok-reserve.ensures.spare)) c.open_in.result c.open_in.new.nodes c.open_in.ensures.does
+      (ap (λ k. nat_le k (room_left c.args.flying.now.flights)) (ap (λ k. k - 1) (sym c.args.nodes.now.all ∙ sym c.args.nodes.now.lives.ok.0 ∙ sym c.len.ensures) ∙ sym c.saturating_sub.ensures) ∙ sym c.find_room.ensures ∙ c.if-not-find_room.false)
+      c.in-Ok.done c.in-Ok.is c.into_vec.result.items c.into_vec.ensures (group_formed (view_of g.D.Disk.seen g.D.Disk.faults g.D.Disk.clock) c.args.node c.in-Ok.done.epoch) c.send_answers.result c.send_answers.new.nodes c.send_answers.new.flying c.send_answers.new.book c.send_answers.ensures).spare,
+)
 
 pub returns-in-Err-clause-did : goal.returns-in-Err-clause-did
 returns-in-Err-clause-did g c = (opened_not (view_of g.D.Disk.seen g.D.Disk.faults g.D.Disk.clock) c.args.node (step.Group c.args.node) (group_forms (view_of g.D.Disk.seen g.D.Disk.faults g.D.Disk.clock) c.args.node) c.args.nodes.now c.requires.fit c.requires.ready g.D.Disk.settled c.args.flying.now (ap (nat_le letters_end) (sym c.sent.ensures) ∙ sym c.is_worn.ensures ∙ c.if-is_worn.false) c.args.book.now refl c.reserve.new.self c.reserve.ensures.entries (omega (arith, c.most_falls.ensures.most, c.in_ok-reserve.ensures.spare)) c.open_in.result c.open_in.new.nodes c.open_in.ensures.does
@@ -76,6 +83,23 @@ returns-in-Err-clause-settled g c = (opened_not (view_of g.D.Disk.seen g.D.Disk.
     c.in-Err.fault c.in-Err.is c.tell_fault.result c.tell_fault.new.book c.tell_fault.ensures.said c.tell_fault.ensures.entries c.tell_fault.ensures.spare).settled
 
 pub returns-in-Err-clause-room : goal.returns-in-Err-clause-room
-returns-in-Err-clause-room g c = (opened_not (view_of g.D.Disk.seen g.D.Disk.faults g.D.Disk.clock) c.args.node (step.Group c.args.node) (group_forms (view_of g.D.Disk.seen g.D.Disk.faults g.D.Disk.clock) c.args.node) c.args.nodes.now c.requires.fit c.requires.ready g.D.Disk.settled c.args.flying.now (ap (nat_le letters_end) (sym c.sent.ensures) ∙ sym c.is_worn.ensures ∙ c.if-is_worn.false) c.args.book.now refl c.reserve.new.self c.reserve.ensures.entries (omega (arith, c.most_falls.ensures.most, c.in_ok-reserve.ensures.spare)) c.open_in.result c.open_in.new.nodes c.open_in.ensures.does
-    (ap (λ k. nat_le k (room_left c.args.flying.now.flights)) (ap (λ k. k - 1) (sym c.args.nodes.now.all ∙ sym c.args.nodes.now.lives.ok.0 ∙ sym c.len.ensures) ∙ sym c.saturating_sub.ensures) ∙ sym c.find_room.ensures ∙ c.if-not-find_room.false)
-    c.in-Err.fault c.in-Err.is c.tell_fault.result c.tell_fault.new.book c.tell_fault.ensures.said c.tell_fault.ensures.entries c.tell_fault.ensures.spare).room
+returns-in-Err-clause-room g c = omega (
+  arith,
+  c.most_falls.ensures.most,
+  c.in_ok-reserve.ensures.spare,
+  (opened_not (view_of g.D.Disk.seen g.D.Disk.faults g.D.Disk.clock) c.args.node (step.Group c.args.node) (group_forms (view_of g.D.Disk.seen g.D.Disk.faults g.D.Disk.clock) c.args.node) c.args.nodes.now c.requires.fit c.requires.ready g.D.Disk.settled c.args.flying.now (ap (nat_le letters_end) (sym c.sent.ensures) ∙ sym c.is_worn.ensures ∙ c.if-is_worn.false) c.args.book.now refl c.reserve.new.self c.reserve.ensures.entries (omega (arith, c.most_falls.ensures.most, c.in_ok-reserve.ensures.spare)) c.open_in.result c.open_in.new.nodes c.open_in.ensures.does
+      (ap (λ k. nat_le k (room_left c.args.flying.now.flights)) (ap (λ k. k - 1) (sym c.args.nodes.now.all ∙ sym c.args.nodes.now.lives.ok.0 ∙ sym c.len.ensures) ∙ sym c.saturating_sub.ensures) ∙ sym c.find_room.ensures ∙ c.if-not-find_room.false)
+      c.in-Err.fault c.in-Err.is c.tell_fault.result c.tell_fault.new.book c.tell_fault.ensures.said c.tell_fault.ensures.entries c.tell_fault.ensures.spare).spare,
+)
+
+pub returns-in-Ok-clause-installs : goal.returns-in-Ok-clause-installs
+returns-in-Ok-clause-installs g c =
+    sent_adds_none (view_of g.D.Disk.seen g.D.Disk.faults g.D.Disk.clock) c.open_in.new.nodes.plan c.args.node None _ c.into_vec.result.items c.send_answers.result
+    c.open_in.new.nodes c.args.flying.now c.reserve.new.self c.send_answers.new.nodes c.send_answers.new.flying c.send_answers.new.book c.send_answers.ensures
+    ∙ ap installs_in c.reserve.ensures.entries
+
+pub returns-in-Err-clause-installs : goal.returns-in-Err-clause-installs
+returns-in-Err-clause-installs g c = c.tell_fault.ensures.installs ∙ ap installs_in c.reserve.ensures.entries
+
+pub returns-in_err-reserve-clause-installs : goal.returns-in_err-reserve-clause-installs
+returns-in_err-reserve-clause-installs g c = ap installs_in c.reserve.ensures.entries

@@ -1,6 +1,9 @@
+use Rattle.std.proofs.Common.{[], ◌∷◌, refl}
 use Rattle.node_store.specs.Disks.{view_of}
+use Rattle.world_book.specs.declared.entry.Entry.TheVariants as written
 use Rattle.cluster_world.proofs.Losing.{lose_did}
 use Rattle.cluster_world.proofs.Fallen.{lose_ready, lose_settled, lose_room, lose_spare}
+use Rattle.cluster_world.proofs.Installs.{adds_none}
 use Rattle.cluster_world.proofs.steps.lose.lose_node.Goals as goal
 
 pub add-requires : goal.add-requires
@@ -17,3 +20,6 @@ returns-clause-settled g c = λ flying seconds. lose_settled (view_of g.D.Disk.s
 
 pub returns-clause-room : goal.returns-clause-room
 returns-clause-room g c = lose_room (view_of g.D.Disk.seen g.D.Disk.faults g.D.Disk.clock) c.args.node c.args.nodes.now c.turn.new.self c.args.book.now c.add.new.self c.requires.fit c.turn.ensures c.add.ensures.spare c.requires.room
+
+pub returns-clause-installs : goal.returns-clause-installs
+returns-clause-installs g c = adds_none c.args.book.now c.add.new.self (written.Lost c.args.node ∷ []) c.add.ensures.entries refl

@@ -1,71 +1,44 @@
-use Rattle.std.proofs.Common.{◌∙◌, refl, sym, ap, nat_le}
-use Rattle.cluster_model.specs.Steps.{letters_end}
+use Rattle.std.proofs.Common.{◌∙◌, ap, arith, sym}
+use Rattle.std.proofs.lemmas.Result.{err_from_is_err_and}
 use Rattle.node_store.specs.Disks.{view_of}
-use Rattle.cluster_world.specs.Flights.{taken_out}
-use Rattle.cluster_world.specs.Lives.{is_up_life}
-use Rattle.cluster_world.specs.Posts.{mishap_of}
-use Rattle.cluster_world.specs.Worlds.{life_among}
-use Rattle.cluster_world.proofs.Posting.{no_letter_posted, worn_posted}
-use Rattle.cluster_world.proofs.PostEnds.{nobody_did, handed_ready, handed_fit, handed_room, noted_ready, ends_within, ended_did}
+use Rattle.cluster_world.specs.Books.{entries_seen}
+use Rattle.cluster_world.specs.Installs.{installs_in}
+use Rattle.cluster_world.specs.Worlds.{state_with}
+use Rattle.cluster_world.specs.declared.step.Step.TheVariants as step
+use Rattle.cluster_world.proofs.Same.{none_done}
+use Rattle.cluster_world.proofs.Asked.{same_book}
+use Rattle.cluster_world.proofs.Installs.{none_added, nobody_added, entry_added, did_alike, settled_alike}
 use Rattle.cluster_world.proofs.steps.post.post_letter.Goals as goal
 
-pub returns-in_default-clause-did : goal.returns-in_default-clause-did
-returns-in_default-clause-did g c = λ seconds. no_letter_posted (view_of g.D.Disk.seen g.D.Disk.faults g.D.Disk.clock) c.args.nodes.now c.args.flying.now seconds c.args.book.now c.args.number c.args.keep (sym c.in_default.ensures.is)
+pub returns-in_default-clause-room : goal.returns-in_default-clause-room
+returns-in_default-clause-room g c = omega (arith, c.requires.room, c.hand_letter.ensures.spare)
 
-pub returns-then-is_worn-clause-did : goal.returns-then-is_worn-clause-did
-returns-then-is_worn-clause-did g c = λ seconds. worn_posted (view_of g.D.Disk.seen g.D.Disk.faults g.D.Disk.clock) c.args.nodes.now c.args.flying.now seconds c.args.book.now c.args.number c.args.keep c.in-Some.letter.now (sym c.in-Some.ensures.is) c.in-Some.ensures.order
-    (ap (nat_le letters_end) (sym c.sent.ensures) ∙ sym c.is_worn.ensures ∙ c.if-is_worn.true)
+pub returns-in_default-clause-installs : goal.returns-in_default-clause-installs
+returns-in_default-clause-installs g c =
+    nobody_added (step.Post c.args.number c.args.keep) c.args.flying.now.flights c.args.nodes.now.lives.items c.hand_letter.new.nodes.lives.items c.args.book.now c.hand_letter.new.book
+    (sym c.hearer_of_install.ensures ∙ c.in_default.is) c.hand_letter.ensures.installs
 
-pub returns-then-not-has_up-clause-did : goal.returns-then-not-has_up-clause-did
-returns-then-not-has_up-clause-did g c = (nobody_did (view_of g.D.Disk.seen g.D.Disk.faults g.D.Disk.clock) g.D.Disk.settled c.args.number c.args.keep c.args.nodes.now c.args.flying.now c.args.book.now c.requires.ready c.requires.room c.in-Some.letter.now (sym c.in-Some.ensures.is) c.in-Some.ensures.order
-    (ap (nat_le letters_end) (sym c.sent.ensures) ∙ sym c.is_worn.ensures ∙ c.if-is_worn.false)
-    (ap (λ n. is_up_life (life_among c.args.nodes.now n)) (sym c.receiver_of-node.ensures) ∙ sym c.has_up.ensures ∙ c.if-not-has_up.true) c.note_in.new.nodes c.note_in.ensures
-    c.leave.new.flying (c.leave.ensures ∙ ap (λ o. taken_out o c.args.flying.now) c.out_of.ensures)).did
+pub returns-in_err-reserve-clause-did : goal.returns-in_err-reserve-clause-did
+returns-in_err-reserve-clause-did g c = λ seconds.
+    let on = (view_of g.D.Disk.seen g.D.Disk.faults g.D.Disk.clock) in
+    let s = state_with c.args.nodes.now c.args.flying.now seconds c.args.book.now in
+    let p = err_from_is_err_and c.from_residual.result c.from_residual.ensures.1 in
+    rw (p.1, p.2) (same_book on _ (step.Post c.args.number c.args.keep) c.args.nodes.now c.args.nodes.now c.args.flying.now seconds c.args.book.now c.reserve.new.self c.reserve.ensures.entries (none_done on s (step.Post c.args.number c.args.keep)))
 
-pub note_handed-requires : goal.note_handed-requires
-note_handed-requires g c = record {
-  works = handed_ready (view_of g.D.Disk.seen g.D.Disk.faults g.D.Disk.clock) g.D.Disk.settled c.args.number c.args.keep c.args.nodes.now c.args.flying.now c.args.book.now c.requires.ready c.requires.room c.in-Some.letter.now (sym c.in-Some.ensures.is) c.in-Some.ensures.order
-      (ap (nat_le letters_end) (sym c.sent.ensures) ∙ sym c.is_worn.ensures ∙ c.if-is_worn.false) c.hear_in-heard.new.nodes c.hear_in-heard.result c.hear_in-heard.ensures.hears;
-}
-
-pub end_post-requires-clause-works : goal.end_post-requires-clause-works
-end_post-requires-clause-works g c = noted_ready (view_of g.D.Disk.seen g.D.Disk.faults g.D.Disk.clock) c.hear_in-heard.new.nodes.plan c.in-Some.letter.now (mishap_of c.in-Some.letter.now.body c.hear_in-heard.result) c.hear_in-heard.new.nodes c.note_handed.new.nodes refl c.note_handed.ensures
-    (handed_ready (view_of g.D.Disk.seen g.D.Disk.faults g.D.Disk.clock) g.D.Disk.settled c.args.number c.args.keep c.args.nodes.now c.args.flying.now c.args.book.now c.requires.ready c.requires.room c.in-Some.letter.now (sym c.in-Some.ensures.is) c.in-Some.ensures.order
-    (ap (nat_le letters_end) (sym c.sent.ensures) ∙ sym c.is_worn.ensures ∙ c.if-is_worn.false) c.hear_in-heard.new.nodes c.hear_in-heard.result c.hear_in-heard.ensures.hears)
-
-pub end_post-requires-clause-within : goal.end_post-requires-clause-within
-end_post-requires-clause-within g c = ends_within (view_of g.D.Disk.seen g.D.Disk.faults g.D.Disk.clock) g.D.Disk.settled c.args.number c.args.keep c.args.nodes.now c.args.flying.now c.args.book.now c.requires.ready c.requires.room c.in-Some.letter.now (sym c.in-Some.ensures.is) c.in-Some.ensures.order
-    (ap (nat_le letters_end) (sym c.sent.ensures) ∙ sym c.is_worn.ensures ∙ c.if-is_worn.false) c.hear_in-heard.new.nodes
-    c.receiver_of-node.result c.receiver_of-node.ensures c.hear_in-heard.result c.hear_in-heard.ensures.hears c.note_handed.new.nodes c.note_handed.ensures
-
-pub end_post-requires-clause-room : goal.end_post-requires-clause-room
-end_post-requires-clause-room g c = handed_room (view_of g.D.Disk.seen g.D.Disk.faults g.D.Disk.clock) g.D.Disk.settled c.args.number c.args.keep c.args.nodes.now c.args.flying.now c.args.book.now c.requires.ready c.requires.room c.in-Some.letter.now (sym c.in-Some.ensures.is) c.in-Some.ensures.order
-    (ap (nat_le letters_end) (sym c.sent.ensures) ∙ sym c.is_worn.ensures ∙ c.if-is_worn.false) c.hear_in-heard.new.nodes c.hear_in-heard.result c.hear_in-heard.ensures.hears
-
-pub end_post-requires-clause-fit : goal.end_post-requires-clause-fit
-end_post-requires-clause-fit g c = handed_fit (view_of g.D.Disk.seen g.D.Disk.faults g.D.Disk.clock) g.D.Disk.settled c.args.number c.args.keep c.args.nodes.now c.args.flying.now c.args.book.now c.requires.ready c.requires.room c.in-Some.letter.now (sym c.in-Some.ensures.is) c.in-Some.ensures.order
-    (ap (nat_le letters_end) (sym c.sent.ensures) ∙ sym c.is_worn.ensures ∙ c.if-is_worn.false) c.hear_in-heard.new.nodes c.hear_in-heard.result c.hear_in-heard.ensures.hears c.hear_in-heard.ensures.fits
+pub returns-in_err-reserve-clause-installs : goal.returns-in_err-reserve-clause-installs
+returns-in_err-reserve-clause-installs g c = none_added (step.Post c.args.number c.args.keep) c.args.flying.now.flights c.args.nodes.now.lives.items c.args.book.now c.reserve.new.self (ap installs_in c.reserve.ensures.entries)
 
 pub returns-clause-did : goal.returns-clause-did
-returns-clause-did g c = (ended_did (view_of g.D.Disk.seen g.D.Disk.faults g.D.Disk.clock) g.D.Disk.settled c.args.number c.args.keep c.args.nodes.now c.args.flying.now c.args.book.now c.requires.ready c.requires.room c.in-Some.letter.now (sym c.in-Some.ensures.is) c.in-Some.ensures.order
-    (ap (nat_le letters_end) (sym c.sent.ensures) ∙ sym c.is_worn.ensures ∙ c.if-is_worn.false) c.hear_in-heard.new.nodes c.end_post.new.nodes c.end_post.new.flying c.end_post.new.book
-    c.receiver_of-node.result c.receiver_of-node.ensures c.out_of-2.result c.out_of-2.ensures c.hear_in-heard.result c.end_post.result c.hear_in-heard.ensures.hears c.hear_in-heard.ensures.light
-    c.note_handed.new.nodes c.note_handed.ensures c.end_post.ensures).did
-
-pub returns-clause-ready : goal.returns-clause-ready
-returns-clause-ready g c = (ended_did (view_of g.D.Disk.seen g.D.Disk.faults g.D.Disk.clock) g.D.Disk.settled c.args.number c.args.keep c.args.nodes.now c.args.flying.now c.args.book.now c.requires.ready c.requires.room c.in-Some.letter.now (sym c.in-Some.ensures.is) c.in-Some.ensures.order
-    (ap (nat_le letters_end) (sym c.sent.ensures) ∙ sym c.is_worn.ensures ∙ c.if-is_worn.false) c.hear_in-heard.new.nodes c.end_post.new.nodes c.end_post.new.flying c.end_post.new.book
-    c.receiver_of-node.result c.receiver_of-node.ensures c.out_of-2.result c.out_of-2.ensures c.hear_in-heard.result c.end_post.result c.hear_in-heard.ensures.hears c.hear_in-heard.ensures.light
-    c.note_handed.new.nodes c.note_handed.ensures c.end_post.ensures).ready
+returns-clause-did g c = λ seconds.
+    did_alike c.args.nodes.now c.hand_letter-said.new.nodes c.args.flying.now c.hand_letter-said.new.flying seconds c.args.book.now c.reserve.new.self c.hand_letter-said.new.book c.enter_install.new.book
+    (ap entries_seen c.reserve.ensures.entries) c.enter_install.ensures.seen (view_of g.D.Disk.seen g.D.Disk.faults g.D.Disk.clock) c.hand_letter-said.result (step.Post c.args.number c.args.keep) (c.hand_letter-said.ensures.did seconds)
 
 pub returns-clause-settled : goal.returns-clause-settled
-returns-clause-settled g c = (ended_did (view_of g.D.Disk.seen g.D.Disk.faults g.D.Disk.clock) g.D.Disk.settled c.args.number c.args.keep c.args.nodes.now c.args.flying.now c.args.book.now c.requires.ready c.requires.room c.in-Some.letter.now (sym c.in-Some.ensures.is) c.in-Some.ensures.order
-    (ap (nat_le letters_end) (sym c.sent.ensures) ∙ sym c.is_worn.ensures ∙ c.if-is_worn.false) c.hear_in-heard.new.nodes c.end_post.new.nodes c.end_post.new.flying c.end_post.new.book
-    c.receiver_of-node.result c.receiver_of-node.ensures c.out_of-2.result c.out_of-2.ensures c.hear_in-heard.result c.end_post.result c.hear_in-heard.ensures.hears c.hear_in-heard.ensures.light
-    c.note_handed.new.nodes c.note_handed.ensures c.end_post.ensures).settled
+returns-clause-settled g c = λ seconds.
+    settled_alike c.args.nodes.now c.hand_letter-said.new.nodes c.args.flying.now c.hand_letter-said.new.flying seconds c.args.book.now c.reserve.new.self c.hand_letter-said.new.book c.enter_install.new.book
+    (ap entries_seen c.reserve.ensures.entries) c.enter_install.ensures.seen g.D.Disk.settled (c.hand_letter-said.ensures.settled seconds)
 
-pub returns-clause-room : goal.returns-clause-room
-returns-clause-room g c = (ended_did (view_of g.D.Disk.seen g.D.Disk.faults g.D.Disk.clock) g.D.Disk.settled c.args.number c.args.keep c.args.nodes.now c.args.flying.now c.args.book.now c.requires.ready c.requires.room c.in-Some.letter.now (sym c.in-Some.ensures.is) c.in-Some.ensures.order
-    (ap (nat_le letters_end) (sym c.sent.ensures) ∙ sym c.is_worn.ensures ∙ c.if-is_worn.false) c.hear_in-heard.new.nodes c.end_post.new.nodes c.end_post.new.flying c.end_post.new.book
-    c.receiver_of-node.result c.receiver_of-node.ensures c.out_of-2.result c.out_of-2.ensures c.hear_in-heard.result c.end_post.result c.hear_in-heard.ensures.hears c.hear_in-heard.ensures.light
-    c.note_handed.new.nodes c.note_handed.ensures c.end_post.ensures).room
+pub returns-clause-installs : goal.returns-clause-installs
+returns-clause-installs g c =
+    entry_added (step.Post c.args.number c.args.keep) c.args.flying.now.flights c.args.nodes.now.lives.items c.hand_letter-said.new.nodes.lives.items c.in-Some.node c.epoch_at-was.result c.args.book.now c.hand_letter-said.new.book c.enter_install.new.book
+    (sym c.hearer_of_install.ensures ∙ c.in-Some.is) c.epoch_at-was.ensures (c.hand_letter-said.ensures.installs ∙ ap installs_in c.reserve.ensures.entries) c.enter_install.ensures.installs

@@ -12,6 +12,7 @@ use Rattle.cluster_world.specs.declared.step.Step.TheVariants as step
 use Rattle.cluster_world.proofs.Same.{none_done}
 use Rattle.cluster_world.proofs.Asked.{same_book}
 use Rattle.cluster_world.proofs.Pushing.{push_late, push_crowded, push_whole, counted_room, counted_crowd, pushed_heard, pushed_ready, pushed_falls, pushed_settled, push_failed, sending_did, sending_ready, sending_falls, sending_settled}
+use Rattle.cluster_world.specs.Installs.{installs_in}
 use Rattle.cluster_world.proofs.steps.push.push_states.Goals as goal
 
 pub returns-then-is_worn-clause-did : goal.returns-then-is_worn-clause-did
@@ -133,3 +134,6 @@ returns-in-Err-clause-room g c =
       c.tell_fault.ensures.spare,
       pushed_falls on c.args.from c.args.to c.args.nodes.now c.requires.fit c.requires.ready g.D.Disk.settled c.args.flying.now c.push_in.new.nodes c.push_in.result ch c.push_in.result refl,
     )
+
+pub returns-in-Err-clause-installs : goal.returns-in-Err-clause-installs
+returns-in-Err-clause-installs g c = c.tell_fault.ensures.installs ∙ ap installs_in c.reserve.ensures.entries

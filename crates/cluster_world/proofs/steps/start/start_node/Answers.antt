@@ -9,6 +9,7 @@ use Rattle.cluster_world.specs.declared.step.Step.TheVariants as step
 use Rattle.cluster_world.proofs.Same.{none_done}
 use Rattle.cluster_world.proofs.Asked.{same_book}
 use Rattle.cluster_world.proofs.Starts.{start_did, start_late, start_ready, start_settled, start_room}
+use Rattle.cluster_world.specs.Installs.{installs_in}
 use Rattle.cluster_world.proofs.steps.start.start_node.Goals as goal
 
 pub returns-then-is_worn-clause-did : goal.returns-then-is_worn-clause-did
@@ -42,3 +43,6 @@ pub returns-clause-room : goal.returns-clause-room
 returns-clause-room g c =
     start_room (view_of g.D.Disk.seen g.D.Disk.faults g.D.Disk.clock) g.D.Disk.settled g.met.D.Disk.settled_is_only c.args.node c.args.nodes.now c.start-started.new.self c.requires.fit c.start-started.result c.start-started.ensures
     _ c.most_falls.result c.most_falls.ensures.most (omega (arith, c.in_ok-reserve.ensures.spare, c.tell.ensures.spare))
+
+pub returns-clause-installs : goal.returns-clause-installs
+returns-clause-installs g c = c.tell.ensures.installs ∙ ap installs_in c.reserve.ensures.entries

@@ -9,6 +9,7 @@ use Rattle.cluster_world.specs.declared.step.Step.TheVariants as step
 use Rattle.cluster_world.proofs.Same.{none_done}
 use Rattle.cluster_world.proofs.Asked.{same_book}
 use Rattle.cluster_world.proofs.Widening.{widened_did, widened_ready, widened_falls, widened_settled, widening_late}
+use Rattle.cluster_world.specs.Installs.{installs_in}
 use Rattle.cluster_world.proofs.steps.widen.widen_copy.Goals as goal
 
 pub returns-then-is_worn-clause-did : goal.returns-then-is_worn-clause-did
@@ -53,3 +54,6 @@ returns-clause-room g c =
       widened_falls (view_of g.D.Disk.seen g.D.Disk.faults g.D.Disk.clock) c.args.at c.args.to c.args.user.now c.args.id c.args.nodes.now c.requires.fit c.requires.ready g.D.Disk.settled c.widen_in-did.new.nodes c.widen_in-did.result c.widen_in-did.ensures
           c.widen_in-did.result refl,
     )
+
+pub returns-clause-installs : goal.returns-clause-installs
+returns-clause-installs g c = c.tell.ensures.installs ∙ ap installs_in c.reserve.ensures.entries

@@ -1,10 +1,12 @@
-use Rattle.std.proofs.Common.{Ok, sym, subst}
+use Rattle.std.proofs.Common.{Ok, ap, refl, sym, subst}
 use Rattle.node_store.specs.Disks.{view_of}
 use Rattle.cluster_world.specs.Worlds.{state_of, state_with}
 use Rattle.cluster_world.specs.Steps.{StepDid}
 use Rattle.cluster_world.specs.Sure.{IsSurelyDone}
 use Rattle.cluster_world.specs.declared.step.Said.TheVariants.{Done}
 use Rattle.cluster_world.proofs.Ticking.{ticked_did, ticked_settled}
+use Rattle.cluster_world.specs.Installs.{installer, AddsInstalls}
+use Rattle.cluster_world.proofs.Installs.{nobody_added}
 use Rattle.cluster_world.proofs.world.World.make_other.Goals as goal
 
 pub returns-in-Ask-clause-did : goal.returns-in-Ask-clause-did
@@ -82,3 +84,61 @@ returns-in-Tick-clause-did g c =
 pub returns-in-Tick-clause-settled : goal.returns-in-Tick-clause-settled
 returns-in-Tick-clause-settled g c =
     ticked_settled (view_of g.D.Disk.seen g.D.Disk.faults g.D.Disk.clock) c.args.self.now.nodes c.args.self.now.flying c.args.self.now.book c.args.self.now.seconds c.in-Tick.seconds g.D.Disk.settled
+
+pub returns-in-Ask-clause-installs : goal.returns-in-Ask-clause-installs
+returns-in-Ask-clause-installs g c =
+    let flights = c.args.self.now.flying.flights in
+    nobody_added c.args.step.now flights c.args.self.now.nodes.lives.items c.ask_for.new.nodes.lives.items c.args.self.now.book c.ask_for.new.book (ap (λ s. installer s flights) c.in-Ask.is) c.ask_for.ensures.installs
+
+pub returns-in-GiveUp-clause-installs : goal.returns-in-GiveUp-clause-installs
+returns-in-GiveUp-clause-installs g c =
+    let flights = c.args.self.now.flying.flights in
+    nobody_added c.args.step.now flights c.args.self.now.nodes.lives.items c.give_up_call.new.nodes.lives.items c.args.self.now.book c.args.self.now.book (ap (λ s. installer s flights) c.in-GiveUp.is) refl
+
+pub returns-in-Start-clause-installs : goal.returns-in-Start-clause-installs
+returns-in-Start-clause-installs g c =
+    let flights = c.args.self.now.flying.flights in
+    nobody_added c.args.step.now flights c.args.self.now.nodes.lives.items c.start_node.new.nodes.lives.items c.args.self.now.book c.start_node.new.book (ap (λ s. installer s flights) c.in-Start.is) c.start_node.ensures.installs
+
+pub returns-in-Drop-clause-installs : goal.returns-in-Drop-clause-installs
+returns-in-Drop-clause-installs g c =
+    let flights = c.args.self.now.flying.flights in
+    nobody_added c.args.step.now flights c.args.self.now.nodes.lives.items c.drop_letter.new.nodes.lives.items c.args.self.now.book c.args.self.now.book (ap (λ s. installer s flights) c.in-Drop.is) refl
+
+pub returns-in-Crash-clause-installs : goal.returns-in-Crash-clause-installs
+returns-in-Crash-clause-installs g c =
+    let flights = c.args.self.now.flying.flights in
+    nobody_added c.args.step.now flights c.args.self.now.nodes.lives.items c.crash_node.new.nodes.lives.items c.args.self.now.book c.crash_node.new.book (ap (λ s. installer s flights) c.in-Crash.is) c.crash_node.ensures.installs
+
+pub returns-in-Lose-clause-installs : goal.returns-in-Lose-clause-installs
+returns-in-Lose-clause-installs g c =
+    let flights = c.args.self.now.flying.flights in
+    nobody_added c.args.step.now flights c.args.self.now.nodes.lives.items c.lose_node.new.nodes.lives.items c.args.self.now.book c.lose_node.new.book (ap (λ s. installer s flights) c.in-Lose.is) c.lose_node.ensures.installs
+
+pub returns-in-Push-clause-installs : goal.returns-in-Push-clause-installs
+returns-in-Push-clause-installs g c =
+    let flights = c.args.self.now.flying.flights in
+    nobody_added c.args.step.now flights c.args.self.now.nodes.lives.items c.push_states.new.nodes.lives.items c.args.self.now.book c.push_states.new.book (ap (λ s. installer s flights) c.in-Push.is) c.push_states.ensures.installs
+
+pub returns-in-Widen-clause-installs : goal.returns-in-Widen-clause-installs
+returns-in-Widen-clause-installs g c =
+    let flights = c.args.self.now.flying.flights in
+    nobody_added c.args.step.now flights c.args.self.now.nodes.lives.items c.widen_copy.new.nodes.lives.items c.args.self.now.book c.widen_copy.new.book (ap (λ s. installer s flights) c.in-Widen.is) c.widen_copy.ensures.installs
+
+pub returns-in-Group-clause-installs : goal.returns-in-Group-clause-installs
+returns-in-Group-clause-installs g c =
+    let flights = c.args.self.now.flying.flights in
+    nobody_added c.args.step.now flights c.args.self.now.nodes.lives.items c.group_node.new.nodes.lives.items c.args.self.now.book c.group_node.new.book (ap (λ s. installer s flights) c.in-Group.is) c.group_node.ensures.installs
+
+pub returns-in-Tick-clause-installs : goal.returns-in-Tick-clause-installs
+returns-in-Tick-clause-installs g c =
+    let flights = c.args.self.now.flying.flights in
+    nobody_added c.args.step.now flights c.args.self.now.nodes.lives.items c.args.self.now.nodes.lives.items c.args.self.now.book c.args.self.now.book (ap (λ s. installer s flights) c.in-Tick.is) refl
+
+pub returns-in-Post-clause-installs : goal.returns-in-Post-clause-installs
+returns-in-Post-clause-installs g c =
+    subst (λ s. AddsInstalls s c.args.self.now.flying.flights c.args.self.now.nodes.lives.items c.args.self.now.book c.post_letter.new.nodes.lives.items c.post_letter.new.book) (sym c.in-Post.is) c.post_letter.ensures.installs
+
+pub returns-in-Conclude-clause-installs : goal.returns-in-Conclude-clause-installs
+returns-in-Conclude-clause-installs g c =
+    subst (λ s. AddsInstalls s c.args.self.now.flying.flights c.args.self.now.nodes.lives.items c.args.self.now.book c.conclude_node.new.nodes.lives.items c.conclude_node.new.book) (sym c.in-Conclude.is) c.conclude_node.ensures.installs
