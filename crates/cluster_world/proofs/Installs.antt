@@ -1,5 +1,5 @@
 -- What a step adds to the book of epochs that were installed.
-use Rattle.std.proofs.Common.{◌≡◌, ℕ, zero, suc, Bool, true, false, ◌&&◌, nat_eq, List, [], ◌∷◌, ◌++◌, append_assoc, append-nil, Option, Some, None, Result, Ok, Err, MatchBool, refl, sym, ap, ◌∙◌, subst, if◌then◌else◌}
+use Rattle.std.proofs.Common.{◌≡◌, ℕ, Bool, arith, true, false, ◌&&◌, nat_eq, List, [], ◌∷◌, ◌++◌, append_assoc, append-nil, Option, Some, None, Result, Ok, Err, MatchBool, refl, sym, ap, ◌∙◌, subst, if◌then◌else◌}
 use Rattle.mail_model.specs.Plan.{Plan}
 use Rattle.mail_model.specs.Identity.{EpochId}
 use Rattle.object_model.specs.Keys.{is_same_epoch}
@@ -40,12 +40,6 @@ installs_more (x ∷ xs) ys = ap (λ zs. install_in x ++ zs) (installs_more xs y
 pub adds_none : (book book' : Book) (added : List Entry) → entries_of book' ≡ entries_of book ++ added → installs_in added ≡ [] → installs_booked book' ≡ installs_booked book
 adds_none book book' added wrote none = ap installs_in wrote ∙ installs_more (entries_of book) added ∙ ap (λ xs. installs_booked book ++ xs) none ∙ append-nil (installs_booked book)
 
-pub fault_adds_none : (n : ℕ) (why : NodeFault) → installs_in (entries_of_fault n why) ≡ []
-fault_adds_none n Disk = refl
-fault_adds_none n Worn = refl
-fault_adds_none n (NoMemory true) = refl
-fault_adds_none n (NoMemory false) = refl
-
 pub if_adds_none : (b : Bool) (entries : List Entry) → installs_in entries ≡ [] → installs_in (if b then entries else []) ≡ []
 if_adds_none true entries none = none
 if_adds_none false entries none = refl
@@ -62,6 +56,10 @@ failure_adds_none n entries (NoMemory false) none = refl
 entered_none : (n : ℕ) (book book' : Book) → IsEntered n book book' → installs_booked book' ≡ installs_booked book
 entered_none n book book' e = adds_none book book' (entry.Down n ∷ []) e.wrote refl
 
+pub stopped_adds_none : (n : ℕ) (down : Bool) (book book' : Book) → MatchBool down (IsEntered n book book') (book' ≡ book) → installs_booked book' ≡ installs_booked book
+stopped_adds_none n true book book' entered = entered_none n book book' entered
+stopped_adds_none n false book book' same = ap installs_booked same
+
 -- A call that begins adds what is to be deleted, and that its node fell.
 pub begin_adds_none : {D : Type 0} (on : View D) (n : ℕ) (entries : List Entry) (result : Result Said StepFault) (old : Nodes D) (flying : InFlight) (book : Book) (new : Nodes D) (flying' : InFlight) (book' : Book)
     (did : Result (Option Number × Outbox) NodeFault) → installs_in entries ≡ [] → Concludes on n entries result old flying book new flying' book' did → installs_booked book' ≡ installs_booked book
@@ -73,8 +71,8 @@ module _ {D : Type 0} (on : View D) (plan : Plan) (n : ℕ) (posted : Option ℕ
   -- Letters that are sent add nothing, and where there is no memory for them it is that the node fell.
   pub sent_adds_none : (says : Said) (letters : List Letter) (result : Result Said StepFault) (old : Nodes D) (flying : InFlight) (book : Book) (new : Nodes D) (flying' : InFlight) (book' : Book)
       → AnswersSent on plan n posted says letters result old flying book new flying' book' → installs_booked book' ≡ installs_booked book
-  sent_adds_none says letters (Ok said) old flying book new flying' book' sent = ap installs_booked sent.2.1
-  sent_adds_none says letters (Err why) old flying book new flying' book' sent = entered_none n book book' sent.2.2.1
+  sent_adds_none says letters (Ok said) old flying book new flying' book' sent = ap installs_booked sent.2
+  sent_adds_none says letters (Err why) old flying book new flying' book' sent = entered_none n book book' sent.3
 
   heard_adds_none : (thrown : Option Why) (letters : List Letter) (result : Result Said StepFault) (old : Nodes D) (flying : InFlight) (book : Book) (new : Nodes D) (flying' : InFlight) (book' : Book)
       → EndsHeard on plan n posted thrown letters result old flying book new flying' book' → installs_booked book' ≡ installs_booked book
@@ -82,19 +80,14 @@ module _ {D : Type 0} (on : View D) (plan : Plan) (n : ℕ) (posted : Option ℕ
   heard_adds_none (Some why) letters result old flying book new flying' book' (EndsThrown.Leaves none is stay left same) = ap installs_booked same
   heard_adds_none (Some why) letters result old flying book new flying' book' (EndsThrown.IsAnswered some sent) = sent_adds_none _ letters result old flying book new flying' book' sent
 
-  stopped_adds_none : (down : Bool) (book book' : Book) → MatchBool down (IsEntered n book book') (book' ≡ book) → installs_booked book' ≡ installs_booked book
-  stopped_adds_none true book book' entered = entered_none n book book' entered
-  stopped_adds_none false book book' same = ap installs_booked same
-
   -- nor does a letter that was handed to its receiver
   pub post_adds_none : (heard : Result Outbox NodeFault) (result : Result Said StepFault) (old : Nodes D) (flying : InFlight) (book : Book) (new : Nodes D) (flying' : InFlight) (book' : Book)
       → EndsPost on plan n posted heard result old flying book new flying' book' → installs_booked book' ≡ installs_booked book
   post_adds_none (Ok outbox) result old flying book new flying' book' ends = heard_adds_none outbox.thrown outbox.letters result old flying book new flying' book' ends
-  post_adds_none (Err why) result old flying book new flying' book' ends = stopped_adds_none (takes_down why) book book' ends.0.2.1
+  post_adds_none (Err why) result old flying book new flying' book' ends = stopped_adds_none n (takes_down why) book book' ends.0.2
 
 same_number : (n : ℕ) → nat_eq n n ≡ true
-same_number zero = refl
-same_number (suc n) = same_number n
+same_number n = grind arith
 
 same_epoch : (e : EpochId) → is_same_epoch e e ≡ true
 same_epoch e = ap (λ b. b && nat_eq e.node e.node) (same_number e.count) ∙ same_number e.node

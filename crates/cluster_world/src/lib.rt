@@ -105,7 +105,7 @@ mod entries;
 mod fault;
 mod flight;
 mod flying;
-mod installs;
+mod installing;
 mod laws;
 mod life;
 mod limits;

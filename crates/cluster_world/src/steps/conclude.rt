@@ -14,7 +14,7 @@ ghost use Rattle.cluster_world.specs.declared.step.Step.TheVariants as step;
 
 use crate::fault::StepFault;
 use crate::flying::{Flying, is_worn};
-use crate::installs::{enter_install, epoch_at};
+use crate::installing::{enter_install, epoch_at};
 use crate::life::Life;
 use crate::nodes::{Nodes, place_of};
 use crate::step::Said;

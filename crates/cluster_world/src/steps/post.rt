@@ -19,7 +19,7 @@ ghost use Rattle.cluster_world.specs.declared.fault.StepFault.TheVariants as fau
 
 use crate::fault::StepFault;
 use crate::flying::{Flying, is_worn};
-use crate::installs::{enter_install, epoch_at, hearer_of_install};
+use crate::installing::{enter_install, epoch_at, hearer_of_install};
 use crate::life::Life;
 use crate::mishaps::note_in;
 use crate::nodes::{Nodes, place_of};
