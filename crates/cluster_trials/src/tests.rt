@@ -6,6 +6,7 @@ ghost use Rattle.cluster_trials.specs.Disks.{octets_told};
 
 mod faults;
 mod groups;
+mod installs;
 mod journals;
 mod orders;
 mod steps;

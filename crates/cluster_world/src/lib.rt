@@ -34,7 +34,9 @@
 //! letter in flight is one that its receiver can hear (`CanBeHeard` in `specs/Hears.antt`).
 //!
 //! The book has an entry for each user's copy that was acknowledged, for each that is to be deleted and for each whose deletion
-//! was confirmed, and one wherever a node went down, came up or was lost. It only grows.
+//! was confirmed, one wherever a node went down, came up or was lost, and one of each epoch that a node has installed, with the
+//! boot in which it did. A node installs an epoch as it concludes its group, and as it hears an Install. An Install that is thrown
+//! adds no entry, nor does a start, and an opening begins with an empty book. It only grows.
 //!
 //! Every step is counted, one that is refused as well. So whoever drives a world can be held to have made these steps and no
 //! others.
@@ -45,6 +47,9 @@
 //! `cluster_model`, and a step leads to a world that stands for the machine's next (`LeadsTo`), where the disks tell what they
 //! hold or the step reads none. At each moment of it a stop of the machine leaves of each disk the records that stood, and the
 //! first of those that were added (`EveryStopKeeps`). A disk that was settled stays so as long as its node is up.
+//!
+//! `BooksInstalls` in `specs/Installs.antt` says of each step which epoch the book has of it: that of the node that concluded its
+//! group, or heard an Install, where that node is up and has another epoch than before; and no other.
 //!
 //! `specs/Outcomes.antt` has the chain of steps that sessions lead to (`Makes`). Of every such chain from an opening on,
 //! whatever the order of its calls and whatever becomes of letters and nodes, the law `world_owes` says what the cluster owes of
@@ -85,8 +90,8 @@
 //! The costs on a disk are those of the node's calls in `node_core`; a step touches the disk of one node at most. A letter is
 //! found by its number in a time that grows with the logarithm of how many are in flight, and one that leaves from the middle
 //! moves those on its shorter side. Room in the book is made before the entries that need it, for all nodes that may still go
-//! down or be lost, so `Crash`, `Lose` and `Drop` take no memory; nor does
-//! `Tick`.
+//! down or be lost, so `Crash`, `Lose` and `Drop` take no memory; nor does `Tick`. For the entry of an epoch it is made before a
+//! node concludes its group, and before an Install is heard.
 //!
 //! STANDS ON
 //!

@@ -23,7 +23,7 @@ pub enum Step {
         /// The ticket of the call.
         ticket: Ticket,
     },
-    /// Hands a letter to its receiver.
+    /// Hands a letter to its receiver. Where it is an Install this takes memory for the entry of the book first.
     Post {
         /// Its number.
         letter: u64,

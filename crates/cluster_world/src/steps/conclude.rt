@@ -105,8 +105,7 @@ fn conclude_group<D: Disk>(
 }
 
 /// A node that is up concludes the group that it has open: those that joined are the members, and each of the others is told. All
-/// the letters find room, or it is refused.
-/// The book has the epoch that it installed.
+/// the letters find room, or it is refused. The book has the epoch that the node then has installed.
 pub(crate) fn conclude_node<D: Disk>(
     alloc: Global,
     nodes: &mut Nodes<D>,
@@ -123,6 +122,7 @@ pub(crate) fn conclude_node<D: Disk>(
     ensures room { all_falls_left nodes.new.lives.items ≤ spare_of book.new }
     ensures installs { AddsInstalls (step.Conclude node) flying.old.flights nodes.old.lives.items book.old nodes.new.lives.items book.new }
 {
+    // One entry more than the conclusion needs, for the epoch.
     book.reserve(nodes.most_falls() + 2)?;
     let was = epoch_at(nodes, node);
     let said = conclude_group(alloc, nodes, flying, book, node);

@@ -346,8 +346,8 @@ fn hand_letter<D: Disk>(
 }
 
 /// Hands a letter to its receiver. It leaves, or is kept in flight, so that it can be posted again; where memory runs out it
-/// stays. Its ticket has a mishap where the receiver is not up, has another epoch, or has a disk fault.
-/// Where it is an Install that the receiver takes up, the book has that.
+/// stays. Its ticket has a mishap where the receiver is not up, has another epoch, or has a disk fault. Of an Install that the
+/// receiver hears the book has the epoch.
 pub(crate) fn post_letter<D: Disk>(
     alloc: Global,
     nodes: &mut Nodes<D>,
