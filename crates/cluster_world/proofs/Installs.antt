@@ -16,15 +16,15 @@ use Rattle.world_book.specs.Books.{entries_of}
 use Rattle.world_book.specs.declared.book.Book.{Book}
 use Rattle.world_book.specs.declared.entry.Entry.{Entry}
 use Rattle.world_book.specs.declared.entry.Entry.TheVariants as entry
-use Rattle.cluster_world.specs.Begins.{entries_of_failure, GoesOn, Fails, Concludes}
+use Rattle.cluster_world.specs.Begins.{entries_of_failure, GoesOn, Concludes}
 use Rattle.cluster_world.specs.Books.{booked_by}
 use Rattle.cluster_world.specs.Flights.{InFlight}
-use Rattle.cluster_world.specs.Installs.{install_in, installs_in, installs_booked, epoch_on, entry_of_epoch, entry_of_install, entries_of_install, installer, AddsInstalls}
+use Rattle.cluster_world.specs.Installs.{install_in, installs_in, installs_booked, epoch_on, entry_of_install, entries_of_install, installer, AddsInstalls}
 use Rattle.cluster_world.specs.Lives.{of_node}
-use Rattle.cluster_world.specs.Posts.{IsEntered, AnswersSent, EndsThrown, EndsHeard, EndsStopped, EndsPost}
+use Rattle.cluster_world.specs.Posts.{IsEntered, AnswersSent, EndsThrown, EndsHeard, EndsPost}
 use Rattle.cluster_world.specs.Steps.{StepDid, AreSettled}
-use Rattle.cluster_world.specs.Unfinished.{takes_down, entries_of_fault}
-use Rattle.cluster_world.specs.Worlds.{WorldState, state_with, node_of_life}
+use Rattle.cluster_world.specs.Unfinished.{takes_down}
+use Rattle.cluster_world.specs.Worlds.{state_with, node_of_life}
 use Rattle.cluster_world.specs.declared.life.Life.{Life}
 use Rattle.cluster_world.specs.declared.nodes.Nodes.{Nodes}
 use Rattle.cluster_world.specs.declared.step.Step.{Step}

@@ -1,8 +1,7 @@
-use Rattle.std.proofs.Common.{◌∙◌, ◌-◌, None, ap, refl, sym, arith, nat_le}
+use Rattle.std.proofs.Common.{◌∙◌, ◌-◌, None, ap, refl, sym, nat_le}
 use Rattle.cluster_model.specs.Steps.{letters_end}
 use Rattle.whole_world.specs.Steps.{room_left}
 use Rattle.node_store.specs.Disks.{view_of}
-use Rattle.cluster_world.specs.Worlds.{state_with}
 use Rattle.cluster_world.specs.declared.step.Step.TheVariants as step
 use Rattle.cluster_world.proofs.Grouping.{conclude_forms, conclude_formed, form_worn, form_crowded, form_none, concluded_ready, concluded_within, concluded_sent, concluded_none, concluded_not}
 use Rattle.cluster_world.proofs.Whole.{whole_there}
