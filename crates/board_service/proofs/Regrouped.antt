@@ -4,7 +4,7 @@ use Rattle.std.specs.Prelude.{Result}
 use Rattle.cluster_owes.specs.Outcomes.{IsIdleStep}
 use Rattle.desk_model.proofs.Begun.{idle_steps_are_quiet}
 use Rattle.node_store.specs.Disks.{View}
-use Rattle.cluster_world.specs.Outcomes.{StepMade, MakesSteps, IsOfRegroup, AreOfRegroup}
+use Rattle.cluster_world.specs.Made.{StepMade, MakesSteps, IsOfRegroup, AreOfRegroup}
 use Rattle.cluster_world.specs.Seen.{step_seen, outcome_seen}
 use Rattle.cluster_world.specs.Steps.{IsStep}
 use Rattle.cluster_world.specs.Worlds.{state_of, plan_of, tells_in}

@@ -31,7 +31,8 @@ use Rattle.cluster_world.specs.Worlds.{StandsFor}
 use Rattle.cluster_world.specs.Seen.{step_seen, outcome_seen}
 use Rattle.cluster_world.specs.Ended.{IsEnded}
 use Rattle.cluster_world.specs.Steps.{IsStep}
-use Rattle.cluster_world.specs.Outcomes.{Outcome, Awaited, StepMade, Came, Makes, IsLeave, has_failed, without_session, left_after, left_after_all, fallen_in}
+use Rattle.cluster_world.specs.Made.{StepMade, has_failed}
+use Rattle.cluster_world.specs.Outcomes.{Outcome, Awaited, Came, Makes, IsLeave, without_session, left_after, left_after_all, fallen_in}
 use Rattle.cluster_world.specs.Outcomes.Outcome.{Began, Refused, Fell, Broke, Answers, StillPending, Unanswered, GaveUp, Abandoned, KeptUp, Left, Moved}
 use Rattle.cluster_world.specs.declared.world.World.{World}
 use Rattle.cluster_world.specs.declared.step.Step.{Step}

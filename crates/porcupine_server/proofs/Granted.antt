@@ -34,7 +34,8 @@ use Rattle.cluster_world.specs.Opens.{IsAtBeginning}
 use Rattle.cluster_world.specs.Worlds.{plan_of, disks_tell, StandsFor}
 use Rattle.cluster_world.specs.Seen.{outcome_seen}
 use Rattle.cluster_world.specs.Owing.{IsOfSession, AreOfSessions}
-use Rattle.cluster_world.specs.Outcomes.{Outcome, Awaited, StepMade, Came, Makes, made_of}
+use Rattle.cluster_world.specs.Made.{StepMade}
+use Rattle.cluster_world.specs.Outcomes.{Outcome, Awaited, Came, Makes, made_of}
 use Rattle.cluster_world.specs.Outcomes.Outcome.{Began, Refused, Fell, Broke, Answers, StillPending, Unanswered, GaveUp, Abandoned, KeptUp, Left, Moved}
 use Rattle.cluster_world.specs.declared.world.World.{World}
 use Rattle.cluster_world.specs.declared.step.Step.TheVariants as step

@@ -19,7 +19,8 @@ use Rattle.cluster_world.specs.Worlds.{state_of, life_of, seen_life, StandsFor}
 use Rattle.cluster_world.specs.Seen.{step_seen, outcome_seen}
 use Rattle.cluster_world.specs.Ended.{IsEnded}
 use Rattle.cluster_world.specs.Steps.{IsStep}
-use Rattle.cluster_world.specs.Outcomes.{StepMade, MakesSteps, IsPost, IsOfRegroup, AreOfRegroup, PostsAll, PushesTo, PushesAll, MakesOne, MakesOrder, has_failed, nodes_but}
+use Rattle.cluster_world.specs.Made.{StepMade, MakesSteps, IsPost, IsOfRegroup, AreOfRegroup, PostsAll, PushesTo, PushesAll, MakesOne, has_failed, nodes_but}
+use Rattle.cluster_world.specs.Outcomes.{MakesOrder}
 use Rattle.cluster_world.specs.declared.life.Life.{Life}
 use Rattle.cluster_world.specs.declared.world.World.{World}
 use Rattle.cluster_world.specs.declared.step.Step.{Step}

@@ -18,7 +18,7 @@ use Rattle.cluster_world.specs.Worlds.{state_of, plan_of, book_of, disks_of, dis
 use Rattle.cluster_world.specs.Steps.{IsStep, IsBlind, StepIsKnown}
 use Rattle.cluster_world.specs.Ended.{IsEnded}
 use Rattle.cluster_world.specs.Seen.{step_seen, outcome_seen}
-use Rattle.cluster_world.specs.Outcomes.{StepMade, MakesSteps, PostsAll, IsOfRegroup, AreOfRegroup, has_failed}
+use Rattle.cluster_world.specs.Made.{StepMade, MakesSteps, PostsAll, IsOfRegroup, AreOfRegroup, has_failed}
 use Rattle.cluster_world.specs.Regroups.{HasRegrouped}
 use Rattle.cluster_world.specs.declared.world.World.{World}
 use Rattle.cluster_world.specs.declared.step.Step.{Step}
