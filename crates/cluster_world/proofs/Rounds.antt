@@ -344,15 +344,14 @@ module _ {D : Type 0} (on : View D) where
 
   pub roomy : (n : ℕ) (old : World D) (lacks : Bool) → lacks ≡ is_lacking n old → lacks ≡ false → WasRoomy n old
   unfolding WasRoomy
-  roomy n old lacks is lacking none fresh = by room
-      (ap (λ (w : Bool). not w && not room) (sym fresh) ∙ ap (λ (o : Option StepFault). (not (is_some o) && not (is_worn_at n (state_of old))) && not room) (sym none) ∙ sym is ∙ lacking)
+  roomy n old lacks is lacking none fresh = with_room (has_room_for_rounds (plan_of old).nodes (state_of old).flying.flights)
+      (ap (λ (w : Bool). not w && not (has_room_for_rounds (plan_of old).nodes (state_of old).flying.flights)) (sym fresh)
+      ∙ ap (λ (o : Option StepFault). (not (is_some o) && not (is_worn_at n (state_of old))) && not (has_room_for_rounds (plan_of old).nodes (state_of old).flying.flights)) (sym none)
+      ∙ sym is ∙ lacking)
     where
-      abbrev room : Bool
-      room = has_room_for_rounds (plan_of old).nodes (state_of old).flying.flights
-
-      by : (b : Bool) → not b ≡ false → b ≡ true
-      by true e = refl
-      by false e = absurd (let never : true ≡ false = e in cc)
+      with_room : (b : Bool) → not b ≡ false → b ≡ true
+      with_room true e = refl
+      with_room false e = absurd (let never : true ≡ false = e in cc)
 
   pub has_formed : (n : ℕ) (epoch : EpochId) (members : ℕ) (old new : World D) → WasRoomy n old → AreInOrder (state_of old).flying → CanMakeSteps on.seen old → CanMakeSteps on.seen new
       → (steps : List StepMade) × IsInOrder on n epoch members old new steps → HasRegrouped on n (Ok (Formed epoch members)) old new

@@ -11,7 +11,7 @@ use Rattle.session_model.specs.Acts.{Act}
 use Rattle.session_model.specs.Acts.Act.{Does, Makes as MakesAct}
 use Rattle.session_model.specs.Acts.Deed.{Hears}
 use Rattle.session_model.specs.Events.{ClusterEvent}
-use Rattle.session_model.specs.Events.ClusterEvent.{HasFormed as FormedEpoch}
+use Rattle.session_model.specs.Events.ClusterEvent.{WentDown, HasFormed as FormedEpoch}
 use Rattle.session_model.specs.Lives.{life_after}
 use Rattle.session_model.specs.Logs.{Asked}
 use Rattle.session_model.specs.Run.{Made, Stop}
@@ -52,12 +52,12 @@ tail_of (y ∷ ys) = ys
 
 -- in the first list, or in the second
 split_at : {X : Type 0} (xs ys front behind : List X) (x : X) → xs ++ ys ≡ front ++ x ∷ behind → ((more : List X) × (xs ≡ front ++ x ∷ more)) ⊎ ((ahead : List X) × (ys ≡ ahead ++ x ∷ behind))
-unfolding head_or, tail_of
+unfolding head_or tail_of
 split_at [] ys front behind x e = inr (front, e)
-split_at (z ∷ xs) ys [] behind x e = inl (xs, ap (λ z. z ∷ xs) (ap (head_or x) e))
-split_at (z ∷ xs) ys (f ∷ front) behind x e = ⊎_elim
-    (λ found. inl (found.0, ap₂ (λ a l. a ∷ l) (ap (head_or x) e) found.1))
-    (λ later. inr later)
+split_at {X} (z ∷ xs) ys [] behind x e = inl (xs, ap (λ (a : X). a ∷ xs) (ap (head_or x) e))
+split_at {X} (z ∷ xs) ys (f ∷ front) behind x e = ⊎_elim
+    (λ (found : (more : List X) × (xs ≡ front ++ x ∷ more)). inl (found.0, ap₂ (λ (a : X) (l : List X). a ∷ l) (ap (head_or x) e) found.1))
+    (λ (later : (ahead : List X) × (ys ≡ ahead ++ x ∷ behind)). inr later)
     (split_at xs ys front behind x (ap tail_of e))
 
 -- what was made of it, behind what was made of the acts before it
@@ -65,7 +65,7 @@ record LedAt (plan : Plan) (been : List Act) (before : List Outcome) (front : Li
   ahead : List Outcome
   own : List Outcome
   back : List Outcome
-  are : outcomes ≡ ahead ++ own ++ back
+  are : outcomes ≡ ahead ++ (own ++ back)
   led : Led plan (been ++ front) (before ++ ahead) act own
 
 led_at : (plan : Plan) (been : List Act) (before : List Outcome) (front behind : List Act) (act : Act) (outcomes : List Outcome) → AreLed plan been before (front ++ act ∷ behind) outcomes → LedAt plan been before front act outcomes
@@ -133,13 +133,13 @@ round_passed n one later of = ⊎_elim
 
 rounds_passed : (n : ℕ) (epoch : EpochId) (members : ℕ) (rounds installs : List StepMade) → AreOfRounds n rounds
     → concluded_in (rounds ++ record { step = step.Conclude n; result = Ok (said.Concluded epoch members) } ∷ installs) ≡ Some (epoch, members)
-unfolding concluded_in, by_step, said_by
+unfolding concluded_in by_step said_by
 rounds_passed n epoch members [] installs of = refl
 rounds_passed n epoch members (one ∷ rounds) installs (is, of) =
     round_passed n one (concluded_in (rounds ++ record { step = step.Conclude n; result = Ok (said.Concluded epoch members) } ∷ installs)) is ∙ rounds_passed n epoch members rounds installs of
 
 concludes_so : (n : ℕ) (epoch : EpochId) (members : ℕ) (steps : List StepMade) → FormsBy n epoch members steps → concluded_in steps ≡ Some (epoch, members)
-concludes_so n epoch members steps by = ap concluded_in by.split ∙ rounds_passed n epoch members by.rounds by.installs by.asks
+concludes_so n epoch members steps forms = ap concluded_in forms.split ∙ rounds_passed n epoch members forms.rounds forms.installs forms.asks
 
 formed_of : Option (EpochId × ℕ) → Result Regroup StepFault → Result Regroup StepFault
 formed_of (Some (epoch, members)) other = Ok (Formed epoch members)
@@ -163,11 +163,11 @@ none_not_some (first ∷ rounds) installs one e = let never : [] ≡ first ∷ (
 
 -- steps that form an epoch are those of a regroup that says so
 one_forms : {D : Type 0} (n : ℕ) (result : Result Regroup StepFault) (steps : List StepMade) (epoch : EpochId) (members : ℕ) (old : World D) → RegroupsSo n result steps old → FormsBy n epoch members steps → result ≡ Ok (Formed epoch members)
-one_forms n (Ok (Formed own mask)) steps epoch members old so by = same_formed own epoch mask members (sym (concludes_so n own mask steps so) ∙ concludes_so n epoch members steps by)
-one_forms n (Ok (Fault failed)) steps epoch members old so by = absurd (fails_not (Ok (said.Faulted failed)) steps refl by.well so)
-one_forms n (Err why) steps epoch members old so by = absurd (⊎_elim
-    (λ (ends : EndsBy (Err why) steps). fails_not (Err why) steps refl by.well ends)
-    (λ (lacks : LacksRoom n why steps old). none_not_some by.rounds by.installs _ (sym lacks.none ∙ by.split)) so)
+one_forms n (Ok (Formed own mask)) steps epoch members old so forms = same_formed own epoch mask members (sym (concludes_so n own mask steps so) ∙ concludes_so n epoch members steps forms)
+one_forms n (Ok (Fault failed)) steps epoch members old so forms = absurd (fails_not (Ok (said.Faulted failed)) steps refl forms.well so)
+one_forms n (Err why) steps epoch members old so forms = absurd (⊎_elim
+    (λ (ends : EndsBy (Err why) steps). fails_not (Err why) steps refl forms.well ends)
+    (λ (lacks : LacksRoom n why steps old). none_not_some forms.rounds forms.installs _ (sym lacks.none ∙ forms.split)) so)
 
 -- ---- a world that was driven
 
@@ -208,7 +208,7 @@ module _ {D : Type 0} (on : View D) where
         by : Led plan before at.ahead (MakesAct (order.Regroup node) (FormedEpoch epoch members)) at.own → members ≡ nodes_up (life_after before) plan.nodes
         by (steps, sum, own, (mask, forms, begun, named)) =
             let one : Outcome = Moved (order.Regroup node) steps sum (nodes_up (life_after before) plan.nodes) in
-            let are : outcomes ≡ at.ahead ++ one ∷ at.back = at.are ∙ ap (λ (l : List Outcome). at.ahead ++ l ++ at.back) own in
+            let are : outcomes ≡ at.ahead ++ one ∷ at.back = at.are ∙ ap (λ (l : List Outcome). at.ahead ++ (l ++ at.back)) own in
             let made = made_at at.ahead at.back one [] left start last (subst (λ (os : List Outcome). Makes on os [] start left last) are makes) in
             let stays : plan_of made.mid ≡ plan = (plan_stays on at.ahead [] made.between start made.mid made.before).0 ∙ begins.plan_is in
             let whole : IsWhole on (plan_of made.mid) made.mid = subst (λ (p : Plan). IsWhole on p made.mid) (sym stays) (whole_at at.ahead (one ∷ at.back) made.between made.mid are made.before) in
@@ -220,3 +220,12 @@ module _ {D : Type 0} (on : View D) where
     pub names_the_up : (stop : Stop) (acts : List Act) (lacking : List Asked) (extra : List Made) → AreLedTo stop plan [] [] acts outcomes lacking extra → NamesTheUp plan acts
     names_the_up stop acts lacking extra to before behind node epoch members are =
         names_up before node epoch members (led_to_at stop plan acts outcomes lacking extra to before behind (order.Regroup node) (FormedEpoch epoch members) are)
+
+-- What it rules out: a node that has stopped is named as a member.
+abbrev second_stopped : List Act
+second_stopped = MakesAct (order.Crash 2) (WentDown 2) ∷ []
+
+pub stopped_is_no_member : (plan : Plan) (epoch : EpochId) → plan.nodes ≡ 2 → NamesTheUp plan (second_stopped ++ MakesAct (order.Regroup 1) (FormedEpoch epoch (1 ∷ 2 ∷ [])) ∷ []) → ⊥
+stopped_is_no_member plan epoch two names =
+    let told : 1 ∷ 2 ∷ [] ≡ nodes_up (life_after second_stopped) plan.nodes = names second_stopped [] 1 epoch (1 ∷ 2 ∷ []) refl in
+    let never : 1 ∷ 2 ∷ [] ≡ 1 ∷ [] = told ∙ ap (nodes_up (life_after second_stopped)) two in cc

@@ -65,10 +65,10 @@ past lives nodes (suc k) within none = by (λ less. past lives nodes k less none
   where
     by : (nodes ≤ k → nodes_up lives k ≡ nodes_up lives nodes) → (b : Bool) → nat_le nodes k ≡ b → nodes_up lives (suc k) ≡ nodes_up lives nodes
     by rest true e =
-        let less : nodes ≤ k = grind (arith, e) in
+        let less : nodes ≤ k = grind (arith, nat_tests, e) in
         ap (λ (b : Bool). nodes_up lives k ++ (if b then suc k ∷ [] else [])) (none (suc k) (omega (arith, less))) ∙ append-nil (nodes_up lives k) ∙ rest less
     by rest false e =
-        let more : k < nodes = grind (arith, e) in
+        let more : k < nodes = grind (arith, nat_tests, e) in
         let same : suc k ≡ nodes = omega (arith, within, more) in ap (nodes_up lives) same
 
 none_past : (lives : List Life) (k : ℕ) → length lives ≤ k → slice_get lives k ≡ None
