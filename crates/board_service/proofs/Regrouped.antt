@@ -4,7 +4,7 @@ use Rattle.std.specs.Prelude.{Result}
 use Rattle.cluster_owes.specs.Outcomes.{IsIdleStep}
 use Rattle.desk_model.proofs.Begun.{idle_steps_are_quiet}
 use Rattle.node_store.specs.Disks.{View}
-use Rattle.cluster_world.specs.Outcomes.{StepMade, MakesSteps, IsOfRegroup, AreOfRegroup}
+use Rattle.cluster_world.specs.Made.{StepMade, MakesSteps, IsOfRegroup, AreOfRegroup}
 use Rattle.cluster_world.specs.Seen.{step_seen, outcome_seen}
 use Rattle.cluster_world.specs.Steps.{IsStep}
 use Rattle.cluster_world.specs.Worlds.{state_of, plan_of, tells_in}
@@ -41,6 +41,6 @@ module _ {D : Type 0} (on : View D) where
       quiet_both on old mid new (one_adds n one old mid here s is) (all_add n more mid new rest (stays.sound s) makes)
 
   pub regroups_add : (n : ℕ) (result : Result Regroup StepFault) (old new : World D) → IsSoundWorld on old → Regroups on n result old new → AddsTo AreQuiet old new
-  regroups_add n result old new c (inl made) =
-      all_add n made.steps old new made.of (record { w = c.plain; stands = c.stands; in_plan = c.in_plan; sound = c.sound; tickets = c.tickets }) made.made
+  regroups_add n result old new c (inl (steps, made)) =
+      all_add n steps old new made.of (record { w = c.plain; stands = c.stands; in_plan = c.in_plan; sound = c.sound; tickets = c.tickets }) made.made
   regroups_add n result old new c (inr (short, same)) = same_world_adds old new same

@@ -3,7 +3,8 @@ use Rattle.std.proofs.Common.{List, [], ◌∷◌, sym, subst}
 use Rattle.std.specs.Prelude.{Result}
 use Rattle.node_store.specs.Disks.{View}
 use Rattle.cluster_world.specs.Steps.{IsStep}
-use Rattle.cluster_world.specs.Outcomes.{Outcome, Awaited, StepMade, MakesSteps, Came, Makes}
+use Rattle.cluster_world.specs.Made.{StepMade, MakesSteps}
+use Rattle.cluster_world.specs.Outcomes.{Outcome, Awaited, Came, Makes}
 use Rattle.cluster_world.specs.Outcomes.Outcome.{Began, Refused, Fell, Broke, Answers, StillPending, Unanswered, GaveUp, Abandoned, KeptUp, Left, Moved}
 use Rattle.cluster_world.proofs.Ordered.{order_makes}
 use Rattle.cluster_world.specs.declared.world.World.{World}
@@ -29,7 +30,7 @@ module _ {D : Type 0} (on : View D) (P : World D → World D → Type 0) (same :
   along_came (Abandoned k asked ticket) awaited left old new came = one _ _ old new came.1
   along_came (KeptUp k ticket why) awaited left old new came = one _ _ old new came.2
   along_came (Left k node user) awaited left old new came = one _ _ old new came.3
-  along_came (Moved order steps sum) awaited left old new came = along_steps steps old new (order_makes on order steps old new came.0)
+  along_came (Moved order steps sum up) awaited left old new came = along_steps steps old new (order_makes on order steps old new came.0)
 
   pub along : (outcomes : List Outcome) (awaited left : List Awaited) (old new : World D) → Makes on outcomes awaited old left new → P old new
   along [] awaited left old new makes = subst (λ (w : World D). P old w) (sym makes.1) (same old)

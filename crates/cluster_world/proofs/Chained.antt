@@ -8,7 +8,8 @@ use Rattle.std.proofs.lemmas.Bool.{cases_lt}
 use Rattle.node_store.specs.Disks.{View}
 use Rattle.cluster_world.specs.Worlds.{plan_of, disks_of, disk_of_node, steps_of, disks_tell}
 use Rattle.cluster_world.specs.Steps.{IsStep}
-use Rattle.cluster_world.specs.Outcomes.{Outcome, Awaited, StepMade, MakesSteps, Came, Makes}
+use Rattle.cluster_world.specs.Made.{StepMade, MakesSteps}
+use Rattle.cluster_world.specs.Outcomes.{Outcome, Awaited, Came, Makes}
 use Rattle.cluster_world.specs.Chains.{MakesMore, StepsAreCounted, PlanStays, LaterAfter, steps_in, all_steps_in}
 use Rattle.cluster_world.specs.Outcomes.Outcome.{Began, Refused, Fell, Broke, Answers, StillPending, Unanswered, GaveUp, Abandoned, KeptUp, Left, Moved}
 use Rattle.cluster_world.proofs.Ordered.{order_makes}
@@ -129,7 +130,7 @@ module _ {D : Type 0} (on : View D) where
   counts_came (Abandoned k asked ticket) awaited left old new within came = came.1.count
   counts_came (KeptUp k ticket why) awaited left old new within came = came.2.count
   counts_came (Left k node user) awaited left old new within came = came.3.count
-  counts_came (Moved order steps sum) awaited left old new within came = counts_steps steps old new within (order_makes on order steps old new came.0)
+  counts_came (Moved order steps sum up) awaited left old new within came = counts_steps steps old new within (order_makes on order steps old new came.0)
 
   counts : (outcomes : List Outcome) (awaited left : List Awaited) (old new : World D) → steps_of old ≤ 18446744073709551615 → Makes on outcomes awaited old left new → Counts (all_steps_in outcomes) old new
   counts [] awaited left old new within makes = counts_none old new within makes.1

@@ -7,7 +7,7 @@ use Rattle.cluster_model.specs.Room.{Flight}
 use Rattle.cluster_world.specs.Flights.{first_number}
 use Rattle.cluster_world.specs.Worlds.{state_of}
 use Rattle.cluster_world.specs.Steps.{IsStep, SaysSo}
-use Rattle.cluster_world.specs.Outcomes.{StepMade, IsPost, PostsAll, has_failed}
+use Rattle.cluster_world.specs.Made.{StepMade, IsPost, PostsAll, has_failed}
 use Rattle.cluster_world.specs.Flows.{IsDelivered, AllDelivered, HasFlowed}
 use Rattle.cluster_world.specs.declared.world.World.{World}
 use Rattle.cluster_world.specs.declared.step.Step.TheVariants.{Post}

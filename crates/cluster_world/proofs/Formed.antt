@@ -28,7 +28,9 @@ use Rattle.whole_world.specs.Makes.Groups.{Opens, FailsOpening}
 use Rattle.whole_world.specs.Regroup as round
 use Rattle.whole_world.specs.Regroup.{PostsEach, Round, ThrownOld, ConcludesAll, Regroups, maps_at, maps_of_slot, HasRoomFor}
 use Rattle.whole_world.specs.Regroup.Regroups.{AtOnce, Again}
+use Rattle.std.specs.Option.{option_map}
 use Rattle.whole_world.specs.Steps as whole_steps
+use Rattle.whole_world.specs.Steps.{first_refusal, node_fault, actor_fault, letters_worn, by_slot, open_fault, step_fault, greatest_epoch}
 use Rattle.whole_world.specs.Steps.Step.{OfMessages, OpenGroup, ConcludeGroup}
 use Rattle.whole_world.specs.Steps.Said.{Told, Grouped as WholeGrouped, Concluded as WholeConcluded}
 use Rattle.whole_world.specs.Steps.StepOutcome.{Says}
@@ -46,12 +48,12 @@ use Rattle.whole_node.specs.declared.node.WholeNode.{WholeNode}
 use Rattle.cluster_world.specs.Flights.{AreInOrder}
 use Rattle.cluster_world.specs.Lives.{of_node, life_seen}
 use Rattle.cluster_world.specs.Maps.{StandsForWhole}
-use Rattle.cluster_world.specs.Outcomes.{StepMade, MakesSteps, has_failed}
-use Rattle.cluster_world.specs.Regroups.{AllWentOn, posts_behind, sent_in, is_old, was_old, threw_old, ArePosted, AreAllPosted, IsRound, IsSecondRound, IsConclusion, IsInOrder, HasFormed, has_room_for_rounds}
+use Rattle.cluster_world.specs.Made.{StepMade, MakesSteps, has_failed}
+use Rattle.cluster_world.specs.Regroups.{AllWentOn, posts_behind, sent_in, is_old, was_old, threw_old, ArePosted, AreAllPosted, IsRound, IsSecondRound, IsConclusion, IsInOrder, HasFormed, has_worn, is_worn_at, has_room_for_rounds}
 use Rattle.cluster_world.specs.Seen.{whole_step, whole_said, whole_outcome}
 use Rattle.cluster_world.specs.Steps.{IsStep, SaysSo}
 use Rattle.cluster_world.specs.Turns.{node_refusal, actor_refusal, life_after_step}
-use Rattle.cluster_world.specs.Wholes.{IsWhole}
+use Rattle.cluster_world.specs.Sound.{IsWhole}
 use Rattle.cluster_world.specs.Worlds.{WorldState, state_of, plan_of, lives_of, disks_of, life_of, life_in, seen_life, disks_tell, CanMakeSteps}
 use Rattle.cluster_world.specs.declared.fault.StepFault.{StepFault}
 use Rattle.cluster_world.specs.declared.fault.StepFault.TheVariants as fault
@@ -397,6 +399,26 @@ room_for nodes flights some roomy =
     octets_in : (a : ℕ) → nat_le (a + 64 * (6 * nodes)) most_octets ≡ true → a + 64 * suc nodes ≤ most_octets
     octets_in a e = let le : a + 64 * (6 * nodes) ≤ most_octets = grind (arith, e) in omega (arith, le, some)
 
+-- an opening that is not refused needs no number that is used up
+not_first : (a b c d : Option whole_steps.StepFault) → first_refusal (a ∷ b ∷ c ∷ d ∷ []) ≡ None → (c ≡ None) × (d ≡ None)
+not_first None None None None e = (refl, refl)
+not_first None None None (Some f) e = absurd (let never : Some f ≡ None = e in cc)
+not_first None None (Some f) d e = absurd (let never : Some f ≡ None = e in cc)
+not_first None (Some f) c d e = absurd (let never : Some f ≡ None = e in cc)
+not_first (Some f) b c d e = absurd (let never : Some f ≡ None = e in cc)
+
+letters_left : (worn : Bool) → option_map whole_steps.StepFault.Fault (if worn then Some mail_steps.StepFault.Worn else None) ≡ None → worn ≡ false
+letters_left false e = refl
+letters_left true e = absurd (let never : Some (whole_steps.StepFault.Fault mail_steps.StepFault.Worn) ≡ None = e in cc)
+
+count_left : (worn : Bool) (rest : Option whole_steps.StepFault) → (if worn then Some (whole_steps.StepFault.Fault mail_steps.StepFault.Worn) else rest) ≡ None → worn ≡ false
+count_left false rest e = refl
+count_left true rest e = absurd (let never : Some (whole_steps.StepFault.Fault mail_steps.StepFault.Worn) ≡ None = e in cc)
+
+neither : (a b : Bool) → a ≡ false → b ≡ false → (a || b) ≡ false
+neither false b e f = f
+neither true b e f = absurd (true≢false e)
+
 -- a plan with a node has one
 some_node : (plan : Plan) (n : ℕ) (all : ℕ → NodeLife) → None ≡ node_refusal plan all (step.Group n) → 1 ≤ plan.nodes
 some_node plan n all e = by (is_node plan n) refl e
@@ -455,14 +477,34 @@ module _ {D : Type 0} (on : View D) where
       only_up = only_up;
     }
 
+  -- where a group was opened no number was used up
+  still_fresh : (world : World D) (v : whole_world.World) (n : ℕ) → StandsForWhole on (state_of world) v → step_fault (plan_of world) (OpenGroup n) v ≡ None → is_worn_at n (state_of world) ≡ false
+  still_fresh world v n st fits = neither (nat_le mail_steps.letters_end (state_of world).flying.sent) (has_worn (of_node (lives_of world) n))
+      (ap (nat_le mail_steps.letters_end) st.mail.sent ∙ letters_left (nat_le mail_steps.letters_end v.sent) both.0) (by (of_node (lives_of world) n) refl)
+    where
+      both : (option_map whole_steps.StepFault.Fault (letters_worn v) ≡ None) × (by_slot (open_fault (plan_of world) v) (whole.slot_at v.slots n) ≡ None)
+      both = not_first (node_fault (plan_of world) (n ∷ [])) (option_map whole_steps.StepFault.Fault (actor_fault n v)) (option_map whole_steps.StepFault.Fault (letters_worn v)) (by_slot (open_fault (plan_of world) v) (whole.slot_at v.slots n)) fits
+
+      by : (o : Option Life) → of_node (lives_of world) n ≡ o → has_worn o ≡ false
+      by None is = refl
+      by (Some lives.Down) is = refl
+      by (Some lives.Lost) is = refl
+      by (Some (lives.Up node)) is =
+          let u = whole_up on (state_of world) v n node (world.nodes.disk_each ∙ sym world.nodes.all) st is in
+          ap (λ (x : maps.Node). nat_le greatest_epoch x.heard) (sym u.maps)
+          ∙ count_left (nat_le greatest_epoch u.seen.maps.heard) _ (ap (by_slot (open_fault (plan_of world) v)) (sym u.up) ∙ both.1)
+
   -- so a regroup does that is made in order, where there was room
   pub forms_the_up : (n : ℕ) (epoch : EpochId) (members : ℕ) (old new : World D) (steps : List StepMade) → IsInOrder on n epoch members old new steps → AreInOrder (state_of old).flying → CanMakeSteps on.seen old → CanMakeSteps on.seen new
-      → (node_refusal (plan_of old) (life_of old) (step.Group n) ≡ None → has_room_for_rounds (plan_of old).nodes (state_of old).flying.flights ≡ true) → IsWhole on (plan_of old) old → HasFormed epoch members (state_of old) (state_of new)
+      → (node_refusal (plan_of old) (life_of old) (step.Group n) ≡ None → is_worn_at n (state_of old) ≡ false → has_room_for_rounds (plan_of old).nodes (state_of old).flying.flights ≡ true) → IsWhole on (plan_of old) old
+      → HasFormed epoch members (state_of old) (state_of new)
   forms_the_up n epoch members old new steps is order ready ready' roomy h =
       let fit = is.first.opened.did.refused in
       let some = some_node (plan_of old) n (life_of old) fit in
       let told = disks_tell on.seen old in
+      let first = round_made on (plan_of old) told n is.again old is.asked is.one (record { plan_is = refl; told_is = refl }) is.first h in
+      let fresh = still_fresh old h.v n h.stands first.made.opens.0 in
       let made = regroup_made on (plan_of old) told n epoch members old new steps (record { plan_is = refl; told_is = refl }) is h in
-      let room = subst (HasRoomFor (suc (plan_of old).nodes)) h.stands.mail.flying (room_for (plan_of old).nodes (state_of old).flying.flights some (roomy (sym fit))) in
+      let room = subst (HasRoomFor (suc (plan_of old).nodes)) h.stands.mail.flying (room_for (plan_of old).nodes (state_of old).flying.flights some (roomy (sym fit) fresh)) in
       let f = regroups_form (plan_of old) told h.v made.ends.v n epoch members h.sound (are_numbered (state_of old).flying h.v order h.stands.mail.flying h.stands.mail.sent) room made.made in
       formed_here epoch members old new ready ready' h.v made.ends.v h.stands made.ends.stands made.lives_stay f

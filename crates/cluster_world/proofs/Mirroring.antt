@@ -27,7 +27,8 @@ use Rattle.cluster_world.specs.Worlds.{StandsFor}
 use Rattle.cluster_world.specs.Seen.{step_seen, outcome_seen}
 use Rattle.cluster_world.specs.Ended.{IsEnded}
 use Rattle.cluster_world.specs.Steps.{IsBlind, IsStep}
-use Rattle.cluster_world.specs.Outcomes.{asked_by_outcome as asked_by, answered_by_outcome as answered_by, Outcome, Awaited, StepMade, MakesSteps, MakesOrder, Came, IsLeave, left_after, left_after_all, fallen_in}
+use Rattle.cluster_world.specs.Made.{StepMade, MakesSteps}
+use Rattle.cluster_world.specs.Outcomes.{asked_by_outcome as asked_by, answered_by_outcome as answered_by, Outcome, Awaited, MakesOrder, Came, IsLeave, left_after, left_after_all, fallen_in}
 use Rattle.cluster_world.specs.Outcomes.Outcome.{Began, Refused, Fell, Broke, Answers, StillPending, Unanswered, GaveUp, Abandoned, KeptUp, Left, Moved}
 use Rattle.cluster_world.specs.Owing.{AreBlind, IsOfBlind, IsOfSession}
 use Rattle.cluster_world.specs.declared.world.World.{World}
@@ -225,14 +226,14 @@ module _ {D : Type 0} (on : View D) (plan : Plan) (told : Bool) where
     silent = quietly awaited left begun w old new of stands within
 
     -- the clock is set
-    ticked : (seconds : ℕ) (made : List StepMade) (sum : BookSum) → MakesOrder on (order.Tick seconds) made old new → left ≡ left_after_all made awaited
-        → Mirrored on plan told (Moved (order.Tick seconds) made sum ∷ []) left begun w new
-    ticked seconds made sum (result, made_is, is) left_is =
+    ticked : (seconds : ℕ) (made : List StepMade) (sum : BookSum) (up : List ℕ) → MakesOrder on (order.Tick seconds) made old new → left ≡ left_after_all made awaited
+        → Mirrored on plan told (Moved (order.Tick seconds) made sum up ∷ []) left begun w new
+    ticked seconds made sum up (result, made_is, is) left_is =
         by result is (λ one m. fewer_after (fallen_in (step.Tick seconds) result) awaited one (subst (Among one) (left_is ∙ ap (λ (l : List StepMade). left_after_all l awaited) made_is) m))
       where
         by : (r : Result Said StepFault) → IsStep on r (step.Tick seconds) old new → ((one : Awaited) → Among one left → Among one awaited)
-            → Mirrored on plan told (Moved (order.Tick seconds) made sum ∷ []) left begun w new
-        by (Err why) is fewer = silent (Moved (order.Tick seconds) made sum ∷ []) (Err why) (step.Tick seconds) (inr tt) tt is (unticked_quiet seconds why) refl refl fewer
+            → Mirrored on plan told (Moved (order.Tick seconds) made sum up ∷ []) left begun w new
+        by (Err why) is fewer = silent (Moved (order.Tick seconds) made sum up ∷ []) (Err why) (step.Tick seconds) (inr tt) tt is (unticked_quiet seconds why) refl refl fewer
         by (Ok what) is fewer =
             let done = subst (λ (s : Said). IsStep on (Ok s) (step.Tick seconds) old new) (tick_done seconds what is.did.kind) is in
             let l = led on plan told (Ok said.Done) (step.Tick seconds) old new of (inr tt) tt done w stands in record {
@@ -243,7 +244,7 @@ module _ {D : Type 0} (on : View D) (plan : Plan) (told : Bool) where
               asked = refl;
               answered = refl;
               within = λ one m. among_front (begun_of one) begun [] (within one (fewer one m));
-              sessions = λ lines all. (all (Moved (order.Tick seconds) made sum) (inl refl), tt);
+              sessions = λ lines all. (all (Moved (order.Tick seconds) made sum up) (inl refl), tt);
             }
 
     pub mirror : (outcome : Outcome) → (told ≡ true) ⊎ IsOfBlind plan.nodes outcome → IsOfSession lines outcome → Came on outcome awaited old left new → Mirrored on plan told (outcome ∷ []) left begun w new
@@ -266,9 +267,9 @@ module _ {D : Type 0} (on : View D) (plan : Plan) (told : Bool) where
     mirror (Left k node user) known of_it (call, result, leaves, is, left_is) =
         silent (Left k node user ∷ []) result (step.Begin node call) (inr tt) (leave_ended user call leaves) is (leave_quiet user node call (outcome_seen result) leaves) refl refl
         (λ one m. fewer_after (fallen_in (step.Begin node call) result) awaited one (subst (Among one) left_is m))
-    mirror (Moved asked made sum) known of_it (makes, left_is, sum_is) = ⊎_elim
-        (λ (seconds, same). subst (λ (o : ClusterOrder). Mirrored on plan told (Moved o made sum ∷ []) left begun w new) (sym same)
-        (ticked seconds made sum (subst (λ (o : ClusterOrder). MakesOrder on o made old new) same makes) left_is))
+    mirror (Moved asked made sum up) known of_it (makes, left_is, sum_is, up_is) = ⊎_elim
+        (λ (seconds, same). subst (λ (o : ClusterOrder). Mirrored on plan told (Moved o made sum up ∷ []) left begun w new) (sym same)
+        (ticked seconds made sum up (subst (λ (o : ClusterOrder). MakesOrder on o made old new) same makes) left_is))
         (λ other.
         let m = moved made awaited begun w old new of stands within (moves_quiet asked made other (order_are on asked made old new makes)) known (order_makes on asked made old new makes) in record {
           outs = m.outs;

@@ -8,7 +8,8 @@ use Rattle.session_model.specs.Events.{NodeLife, IsUp}
 use Rattle.session_model.specs.Events.NodeLife.{Up, Down, Lost}
 use Rattle.node_store.specs.Disks.{View}
 use Rattle.cluster_world.specs.Steps.{IsStep}
-use Rattle.cluster_world.specs.Outcomes.{StepMade, MakesSteps, IsPost, PostsAll, PushesTo, PushesAll, AreOfRegroup, MakesOne, MakesOrder, has_failed, nodes_but}
+use Rattle.cluster_world.specs.Made.{StepMade, MakesSteps, IsPost, PostsAll, PushesTo, PushesAll, AreOfRegroup, MakesOne, has_failed, nodes_but}
+use Rattle.cluster_world.specs.Outcomes.{MakesOrder}
 use Rattle.cluster_world.specs.declared.world.World.{World}
 use Rattle.cluster_world.specs.declared.step.Step.{Step}
 use Rattle.cluster_world.specs.declared.step.Step.TheVariants as step
@@ -94,7 +95,7 @@ module _ {D : Type 0} (on : View D) where
   order_makes (order.Widen at user id to) steps old new made = one_makes (step.Widen at user id to) steps old new made
   order_makes (order.Group node) steps old new made = one_makes (step.Group node) steps old new made
   order_makes (order.Conclude node) steps old new made = one_makes (step.Conclude node) steps old new made
-  order_makes (order.Regroup node) steps old new made = made.1
+  order_makes (order.Regroup node) steps old new made = made.1.made
   order_makes (order.Tick seconds) steps old new made = one_makes (step.Tick seconds) steps old new made
   order_makes order.Sum steps old new made = subst (λ (l : List StepMade). MakesSteps on l old new) (sym made.0) made.1
 
@@ -110,6 +111,6 @@ module _ {D : Type 0} (on : View D) where
   order_are (order.Widen at user id to) steps old new made = one_is (step.Widen at user id to) steps old new made
   order_are (order.Group node) steps old new made = one_is (step.Group node) steps old new made
   order_are (order.Conclude node) steps old new made = one_is (step.Conclude node) steps old new made
-  order_are (order.Regroup node) steps old new made = made.0
+  order_are (order.Regroup node) steps old new made = made.1.of
   order_are (order.Tick seconds) steps old new made = one_is (step.Tick seconds) steps old new made
   order_are order.Sum steps old new made = made.0

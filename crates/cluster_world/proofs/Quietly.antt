@@ -15,7 +15,8 @@ use Rattle.cluster_owes.specs.Outcomes.{IsIdleStep}
 use Rattle.cluster_world.specs.Seen.{step_seen, outcome_seen}
 use Rattle.cluster_world.specs.Steps.{SaysSo}
 use Rattle.cluster_world.specs.Ended.{IsEnded}
-use Rattle.cluster_world.specs.Outcomes.{StepMade, IsPost, AreOfRegroup, IsRefusal, LeavesUnanswered}
+use Rattle.cluster_world.specs.Made.{StepMade, IsPost, AreOfRegroup}
+use Rattle.cluster_world.specs.Outcomes.{IsRefusal, LeavesUnanswered}
 use Rattle.cluster_world.proofs.Ordered.{IsPushOf, AreOne, AreStepsOf}
 use Rattle.cluster_world.specs.declared.step.Step.{Step}
 use Rattle.cluster_world.specs.declared.step.Step.TheVariants as step

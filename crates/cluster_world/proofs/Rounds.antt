@@ -9,8 +9,8 @@ use Rattle.cluster_world.specs.Steps.{IsStep, SaysSo}
 use Rattle.cluster_world.specs.Turns.{node_refusal}
 use Rattle.cluster_world.specs.Flights.{AreInOrder}
 use Rattle.cluster_world.specs.Worlds.{state_of, plan_of, life_of, CanMakeSteps}
-use Rattle.cluster_world.specs.Outcomes.{StepMade, MakesSteps, IsPost, IsOfRegroup, AreOfRegroup, has_failed}
-use Rattle.cluster_world.specs.Regroups.{AllWentOn, IsOfRound, AreOfRounds, AllPost, BeginsByGroup, FormsBy, EndsBy, posts_behind, threw_old, sent_in, ArePosted, AreAllPosted, IsRound, IsSecondRound, IsConclusion, IsInOrder, halted, Halts, StepsOn, PostsOn, AsksOn, ConcludesOn, FormsOn, AsksAgain, RegroupsSo, LacksRoom, BeginsWithRoom, has_room_for_rounds, is_old, failed_in, ended, HasRegrouped, FormsInOrder}
+use Rattle.cluster_world.specs.Made.{StepMade, MakesSteps, IsPost, IsOfRegroup, AreOfRegroup, has_failed}
+use Rattle.cluster_world.specs.Regroups.{AllWentOn, IsOfRound, AreOfRounds, AllPost, BeginsByGroup, FormsBy, EndsBy, posts_behind, threw_old, sent_in, ArePosted, AreAllPosted, IsRound, IsSecondRound, IsConclusion, IsInOrder, is_worn_at, halted, Halts, StepsOn, PostsOn, AsksOn, ConcludesOn, FormsOn, AsksAgain, RegroupsSo, LacksRoom, BeginsWithRoom, has_room_for_rounds, is_old, failed_in, ended, HasRegrouped, FormsInOrder}
 use Rattle.cluster_world.specs.declared.world.World.{World}
 use Rattle.cluster_world.specs.declared.step.Step.{Step}
 use Rattle.cluster_world.specs.declared.step.Step.TheVariants as step
@@ -329,88 +329,106 @@ module _ {D : Type 0} (on : View D) where
 
   -- the whole
   pub WasRoomy : ℕ → World D → Type 0
-  WasRoomy n old = node_refusal (plan_of old) (life_of old) (step.Group n) ≡ None → has_room_for_rounds (plan_of old).nodes (state_of old).flying.flights ≡ true
+  WasRoomy n old =
+      node_refusal (plan_of old) (life_of old) (step.Group n) ≡ None → is_worn_at n (state_of old) ≡ false → has_room_for_rounds (plan_of old).nodes (state_of old).flying.flights ≡ true
 
   was_roomy : (n : ℕ) (old : World D) (steps : List StepMade) → WasRoomy n old → BeginsWithRoom n steps old
   unfolding WasRoomy
   was_roomy n old [] roomy = tt
   was_roomy n old (one ∷ more) roomy = roomy
 
-  pub roomy : (n : ℕ) (old : World D) (lacks : Bool)
-      → lacks ≡ (not (is_some (node_refusal (plan_of old) (life_of old) (step.Group n))) && not (has_room_for_rounds (plan_of old).nodes (state_of old).flying.flights)) → lacks ≡ false → WasRoomy n old
+  -- whether it is refused for want of room
+  abbrev pub is_lacking : ℕ → World D → Bool
+  is_lacking n old =
+      (not (is_some (node_refusal (plan_of old) (life_of old) (step.Group n))) && not (is_worn_at n (state_of old))) && not (has_room_for_rounds (plan_of old).nodes (state_of old).flying.flights)
+
+  pub roomy : (n : ℕ) (old : World D) (lacks : Bool) → lacks ≡ is_lacking n old → lacks ≡ false → WasRoomy n old
   unfolding WasRoomy
-  roomy n old lacks is lacking none = by (has_room_for_rounds (plan_of old).nodes (state_of old).flying.flights) (ap (λ o. not (is_some o) && not (has_room_for_rounds (plan_of old).nodes (state_of old).flying.flights)) (sym none) ∙ sym is ∙ lacking)
+  roomy n old lacks is lacking none fresh = with_room (has_room_for_rounds (plan_of old).nodes (state_of old).flying.flights)
+      (ap (λ (w : Bool). not w && not (has_room_for_rounds (plan_of old).nodes (state_of old).flying.flights)) (sym fresh)
+      ∙ ap (λ (o : Option StepFault). (not (is_some o) && not (is_worn_at n (state_of old))) && not (has_room_for_rounds (plan_of old).nodes (state_of old).flying.flights)) (sym none)
+      ∙ sym is ∙ lacking)
     where
-      by : (b : Bool) → not b ≡ false → b ≡ true
-      by true e = refl
-      by false e = absurd (let never : true ≡ false = e in cc)
+      with_room : (b : Bool) → not b ≡ false → b ≡ true
+      with_room true e = refl
+      with_room false e = absurd (let never : true ≡ false = e in cc)
 
   pub has_formed : (n : ℕ) (epoch : EpochId) (members : ℕ) (old new : World D) → WasRoomy n old → AreInOrder (state_of old).flying → CanMakeSteps on.seen old → CanMakeSteps on.seen new
       → (steps : List StepMade) × IsInOrder on n epoch members old new steps → HasRegrouped on n (Ok (Formed epoch members)) old new
   unfolding WasRoomy
-  has_formed n epoch members old new fits order ready ready' (steps, is) = record {
-    steps = steps;
-    made = formed_made n epoch members old new steps is;
-    of = formed_of n epoch members old new steps is;
-    begins = formed_begins n epoch members old new steps is;
-    room = was_roomy n old steps fits;
-    shape = formed_by n epoch members old new steps is;
-    order = is;
-    forms = forms_the_up on n epoch members old new steps is order ready ready' fits;
-  }
+  has_formed n epoch members old new fits order ready ready' (steps, is) = (
+    steps,
+    record {
+      made = formed_made n epoch members old new steps is;
+      of = formed_of n epoch members old new steps is;
+      begins = formed_begins n epoch members old new steps is;
+      room = was_roomy n old steps fits;
+      shape = formed_by n epoch members old new steps is;
+      order = is;
+      forms = forms_the_up on n epoch members old new steps is order ready ready' fits;
+    },
+  )
 
   pub has_halted : (n : ℕ) (halt : Halt) (old new : World D) → WasRoomy n old → Halts on (λ steps. AreOfRegroup n steps × BeginsByGroup n steps) halt old new → HasRegrouped on n (ended halt) old new
-  has_halted n (halt.Fault failed) old new fits halts = record {
-    steps = halts.steps;
-    made = halts.made;
-    of = halts.are.0;
-    begins = halts.are.1;
-    room = was_roomy n old halts.steps fits;
-    shape = halts.ends;
-    order = tt;
-    forms = λ whole. tt;
-  }
-  has_halted n (halt.Refused why) old new fits halts = record {
-    steps = halts.steps;
-    made = halts.made;
-    of = halts.are.0;
-    begins = halts.are.1;
-    room = was_roomy n old halts.steps fits;
-    shape = inl halts.ends;
-    order = tt;
-    forms = λ whole. tt;
-  }
+  has_halted n (halt.Fault failed) old new fits halts = (
+    halts.steps,
+    record {
+      made = halts.made;
+      of = halts.are.0;
+      begins = halts.are.1;
+      room = was_roomy n old halts.steps fits;
+      shape = halts.ends;
+      order = tt;
+      forms = λ whole. tt;
+    },
+  )
+  has_halted n (halt.Refused why) old new fits halts = (
+    halts.steps,
+    record {
+      made = halts.made;
+      of = halts.are.0;
+      begins = halts.are.1;
+      room = was_roomy n old halts.steps fits;
+      shape = inl halts.ends;
+      order = tt;
+      forms = λ whole. tt;
+    },
+  )
 
   pub has_no_room : (n : ℕ) (world : World D) → LacksRoom n fault.NoRoom [] world → HasRegrouped on n (Err fault.NoRoom) world world
-  has_no_room n world lacks = record {
-    steps = [];
-    made = refl;
-    of = tt;
-    begins = tt;
-    room = tt;
-    shape = inr lacks;
-    order = tt;
-    forms = λ whole. tt;
-  }
+  has_no_room n world lacks = (
+    [],
+    record {
+      made = refl;
+      of = tt;
+      begins = tt;
+      room = tt;
+      shape = inr lacks;
+      order = tt;
+      forms = λ whole. tt;
+    },
+  )
 
   no_refusal : (o : Option StepFault) → not (is_some o) ≡ true → o ≡ None
   no_refusal None e = refl
   no_refusal (Some why) e = absurd (let never : false ≡ true = e in cc)
 
-  no_more_room : (b : Bool) → not b ≡ true → b ≡ false
-  no_more_room false e = refl
-  no_more_room true e = absurd (let never : false ≡ true = e in cc)
+  not_so : (b : Bool) → not b ≡ true → b ≡ false
+  not_so false e = refl
+  not_so true e = absurd (let never : false ≡ true = e in cc)
 
-  pub lacks_room : (n : ℕ) (old : World D) (lacks : Bool)
-      → lacks ≡ (not (is_some (node_refusal (plan_of old) (life_of old) (step.Group n))) && not (has_room_for_rounds (plan_of old).nodes (state_of old).flying.flights)) → lacks ≡ true
-      → HasRegrouped on n (Err fault.NoRoom) old old
+  pub lacks_room : (n : ℕ) (old : World D) (lacks : Bool) → lacks ≡ is_lacking n old → lacks ≡ true → HasRegrouped on n (Err fault.NoRoom) old old
   lacks_room n old lacks is lacking =
-      let both = and_parts (not (is_some (node_refusal (plan_of old) (life_of old) (step.Group n)))) (not (has_room_for_rounds (plan_of old).nodes (state_of old).flying.flights)) (sym is ∙ lacking) in
+      let fits = not (is_some (node_refusal (plan_of old) (life_of old) (step.Group n))) in
+      let fresh = not (is_worn_at n (state_of old)) in
+      let both = and_parts (fits && fresh) (not (has_room_for_rounds (plan_of old).nodes (state_of old).flying.flights)) (sym is ∙ lacking) in
+      let begins = and_parts fits fresh both.0 in
       has_no_room n old (record {
         none = refl;
         is = refl;
-        fit = no_refusal (node_refusal (plan_of old) (life_of old) (step.Group n)) both.0;
-        lacking = no_more_room (has_room_for_rounds (plan_of old).nodes (state_of old).flying.flights) both.1;
+        fit = no_refusal (node_refusal (plan_of old) (life_of old) (step.Group n)) begins.0;
+        fresh = not_so (is_worn_at n (state_of old)) begins.1;
+        lacking = not_so (has_room_for_rounds (plan_of old).nodes (state_of old).flying.flights) both.1;
       })
 
   -- one letter more

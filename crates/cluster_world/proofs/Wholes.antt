@@ -43,12 +43,14 @@ use Rattle.whole_node.specs.declared.node.WholeNode.{WholeNode}
 use Rattle.cluster_world.specs.Ended.{IsEnded}
 use Rattle.cluster_world.specs.Lives.{of_node}
 use Rattle.cluster_world.specs.Maps.{AreMaps, StandsForWhole}
-use Rattle.cluster_world.specs.Outcomes.{Outcome, Awaited, StepMade, MakesSteps, MakesOrder, Came, Makes, IsLeave}
+use Rattle.cluster_world.specs.Made.{StepMade, MakesSteps}
+use Rattle.cluster_world.specs.Outcomes.{Outcome, Awaited, MakesOrder, Came, Makes, IsLeave}
 use Rattle.cluster_world.specs.Outcomes.Outcome.{Began, Refused, Fell, Broke, Answers, StillPending, Unanswered, GaveUp, Abandoned, KeptUp, Left, Moved}
 use Rattle.cluster_world.specs.Owing.{AreBlind, IsOfBlind, AllBlind, IsOfSession, AreOfSessions}
 use Rattle.cluster_world.specs.Seen.{whole_step, whole_outcome}
 use Rattle.cluster_world.specs.Steps.{IsBlind, IsStep}
-use Rattle.cluster_world.specs.Wholes.{IsWhole, WorldIsWhole, IsKnownIn, HasOneMap, OneMapPerEpoch}
+use Rattle.cluster_world.specs.Sound.{IsWhole}
+use Rattle.cluster_world.specs.Wholes.{WorldIsWhole, IsKnownIn, HasOneMap, OneMapPerEpoch}
 use Rattle.cluster_world.specs.Worlds.{WorldState, state_of, disks_tell, StateStandsFor}
 use Rattle.cluster_world.specs.declared.fault.StepFault.{StepFault}
 use Rattle.cluster_world.specs.declared.life.Life.TheVariants.{Up}
@@ -192,7 +194,7 @@ module _ {D : Type 0} (on : View D) where
     came_whole lines (Abandoned k asked ticket) awaited left old new of known session (waits, is, left_is) h = whole_on _ (step.GiveUp ticket) old new of (inr tt) tt is h
     came_whole lines (KeptUp k ticket why) awaited left old new of known session (asked, waits, is, left_is) h = whole_on _ (step.GiveUp ticket) old new of (inr tt) tt is h
     came_whole lines (Left k node user) awaited left old new of known session (call, result, leaves, is, left_is) h = whole_on result (step.Begin node call) old new of (inr tt) (leave_ended user call leaves) is h
-    came_whole lines (Moved asked made sum) awaited left old new of known session (makes, left_is, sum_is) h = ⊎_elim
+    came_whole lines (Moved asked made sum up) awaited left old new of known session (makes, left_is, sum_is, up_is) h = ⊎_elim
         (λ (seconds, same). ticks_whole seconds made old new of (subst (λ (o : ClusterOrder). MakesOrder on o made old new) same makes) h)
         (λ other. all_whole made old new of (moves_quiet asked made other (order_are on asked made old new makes)) known (order_makes on asked made old new makes) h)
         (tick_or asked)

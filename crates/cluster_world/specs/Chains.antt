@@ -10,7 +10,7 @@ use Rattle.cluster_world.specs.declared.world.World.{World}
 
 -- how many steps an outcome is of
 abbrev pub steps_in : Outcome → ℕ
-steps_in (Moved order steps sum) = length steps
+steps_in (Moved order steps sum up) = length steps
 steps_in outcome = 1
 
 abbrev pub all_steps_in : List Outcome → ℕ

@@ -1,7 +1,7 @@
 -- What posting all letters does.
 use Rattle.std.specs.Prelude.{◌≡◌, ℕ, List, [], ◌∷◌, ◌++◌, Option, Some, None, ⊤, Result, Ok, Err}
 use Rattle.node_store.specs.Disks.{View}
-use Rattle.cluster_world.specs.Outcomes.{StepMade, IsPost, PostsAll}
+use Rattle.cluster_world.specs.Made.{StepMade, IsPost, PostsAll}
 use Rattle.cluster_world.specs.declared.world.World.{World}
 use Rattle.cluster_world.specs.declared.step.Said.{Said}
 use Rattle.cluster_world.specs.declared.step.Said.TheVariants.{Heard, Thrown, Faulted}

@@ -24,6 +24,9 @@ pub mod Steps
 pub mod Telling
 pub mod Sure
 pub mod Opens
+pub mod Made
+pub mod Sound
+pub mod Regroups
 pub mod Outcomes
 pub mod Flows
 pub mod Chains
@@ -36,4 +39,3 @@ pub mod Posts
 pub mod Forms
 pub mod Runs
 pub mod Wholes
-pub mod Regroups

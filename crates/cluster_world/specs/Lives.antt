@@ -1,5 +1,5 @@
 -- How the nodes of a cluster are, and what holds of each between two steps.
-use Rattle.std.specs.Prelude.{◌≡◌, ℕ, zero, suc, ◌+◌, Bool, true, false, List, [], ◌∷◌, Option, Some, None, slice_get, slice_set}
+use Rattle.std.specs.Prelude.{◌≡◌, ℕ, zero, suc, ◌+◌, Bool, true, false, List, [], ◌∷◌, ◌++◌, Option, Some, None, slice_get, slice_set, if◌then◌else◌}
 use Rattle.mail_model.specs.Plan.{Plan}
 use Rattle.session_model.specs.Events.{NodeLife, NodeLife as life}
 use Rattle.node_core.specs.Nodes.{IsNodeOf, node_seen}
@@ -23,6 +23,11 @@ abbrev pub is_lost_life : NodeLife → Bool
 is_lost_life (life.Up boot) = false
 is_lost_life life.Down = false
 is_lost_life life.Lost = true
+
+-- of the nodes from 1 to n those that are up, in rising order
+abbrev pub nodes_up : (ℕ → NodeLife) → ℕ → List ℕ
+nodes_up lives zero = []
+nodes_up lives (suc k) = nodes_up lives k ++ (if is_up_life (lives (suc k)) then suc k ∷ [] else [])
 
 -- the boot of a node that is up
 abbrev pub boot_in_life : NodeLife → Option ℕ

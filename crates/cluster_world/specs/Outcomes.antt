@@ -1,6 +1,6 @@
 -- The steps that the lines of a tape lead to in a world, one after another, and what came of each. Of them what a cluster owes is read off: what it was asked, and
 -- what it answered.
-use Rattle.std.specs.Prelude.{◌≡◌, ◌⊎◌, ℕ, zero, suc, ◌+◌, Bool, true, false, not, nat_eq, List, [], ◌∷◌, ◌++◌, filter, ⊤, MatchBool, Option, Some, None, Result, Ok, Err, if◌then◌else◌}
+use Rattle.std.specs.Prelude.{◌≡◌, ℕ, true, false, not, nat_eq, List, [], ◌∷◌, ◌++◌, filter, ⊤, Option, Some, None, Result, Ok, Err}
 use Rattle.mail_model.specs.Tape.{ClusterOrder}
 use Rattle.mail_model.specs.Tape.{ClusterOrder as order}
 use Rattle.session_model.specs.Sums.{BookSum, sum_of}
@@ -9,7 +9,6 @@ use Rattle.session_model.specs.Calls.{Call, Answer, IsAnswerTo}
 use Rattle.session_model.specs.Calls.Answer.{Failed}
 use Rattle.session_model.specs.Logs.{Asked, Answered}
 use Rattle.session_model.specs.Run.{Made}
-use Rattle.session_model.specs.Events.{NodeLife, IsUp}
 use Rattle.object_model.specs.Lists.{Among}
 use Rattle.call_tickets.specs.Seen.{call_seen, answer_seen}
 use Rattle.call_tickets.specs.declared.call.Call.{Call as WorldCall}
@@ -17,9 +16,11 @@ use Rattle.call_tickets.specs.declared.call.Call.TheVariants.{Leave}
 use Rattle.call_tickets.specs.declared.answer.Answer.{Answer as WorldAnswer}
 use Rattle.call_tickets.specs.declared.answer.Ask.TheVariants as ask
 use Rattle.node_store.specs.Disks.{View}
-use Rattle.cluster_world.specs.Flights.{first_number}
+use Rattle.cluster_world.specs.Lives.{nodes_up}
+use Rattle.cluster_world.specs.Made.{StepMade, MakesSteps, MakesOne, PostsAll, PushesAll}
+use Rattle.cluster_world.specs.Regroups.{MakesRegroup}
 use Rattle.cluster_world.specs.Steps.{IsStep}
-use Rattle.cluster_world.specs.Worlds.{state_of, plan_of, life_of, book_of}
+use Rattle.cluster_world.specs.Worlds.{plan_of, life_of, book_of}
 use Rattle.cluster_world.specs.declared.world.World.{World}
 use Rattle.cluster_world.specs.declared.step.Step.{Step}
 use Rattle.cluster_world.specs.declared.step.Step.TheVariants as step
@@ -27,16 +28,7 @@ use Rattle.cluster_world.specs.declared.step.Said.{Said}
 use Rattle.cluster_world.specs.declared.step.Said.TheVariants as said
 use Rattle.cluster_world.specs.declared.fault.StepFault.{StepFault}
 use Rattle.cluster_world.specs.declared.fault.StepFault.TheVariants as fault
-
--- a step, and what it answered
-pub record StepMade : Type 0 where
-  pub step : Step
-  pub result : Result Said StepFault
-
--- the world made these steps, one after another, and no others
-abbrev pub MakesSteps : {D : Type 0} → View D → List StepMade → World D → World D → Type 0
-MakesSteps on [] old new = new ≡ old
-MakesSteps {D} on (one ∷ more) old new = (mid : World D) × IsStep on one.result one.step old mid × MakesSteps on more mid new
+use Rattle.cluster_world.specs.declared.regrouping.Regroup.{Regroup}
 
 -- the call of the world is the user's leave
 abbrev pub IsLeave : List ℕ → WorldCall → Type 0
@@ -66,8 +58,12 @@ pub data Outcome : Type 0 where
   KeptUp : (k : ℕ) (ticket : Number) (why : StepFault) → Outcome
   -- it has left its node, or was refused
   Left : (k node : ℕ) (user : List ℕ) → Outcome
-  -- these steps were made for a run line, where the book had so many entries
-  Moved : (order : ClusterOrder) (steps : List StepMade) (sum : BookSum) → Outcome
+  -- these steps were made for a run line, where the book had so many entries and these nodes were up
+  Moved : (order : ClusterOrder) (steps : List StepMade) (sum : BookSum) (up : List ℕ) → Outcome
+
+-- the outcome of a run line for which these steps were made in this world
+abbrev pub moved_in : {D : Type 0} → World D → ClusterOrder → List StepMade → Outcome
+moved_in world order steps = Moved order steps (sum_of (book_of world)) (nodes_up (life_of world) (plan_of world).nodes)
 
 -- what was made of the cluster
 abbrev pub made_of : Outcome → Made
@@ -82,7 +78,7 @@ made_of (GaveUp k asked ticket) = Made.GivesUp k
 made_of (Abandoned k asked ticket) = Made.GivesUp k
 made_of (KeptUp k ticket why) = Made.GivesUp k
 made_of (Left k node user) = Made.Leaves k user
-made_of (Moved order steps sum) = Made.Moves order
+made_of (Moved order steps sum up) = Made.Moves order
 
 -- What it was asked. A call that was refused is none: nothing came of it.
 abbrev pub asked_by_outcome : Outcome → List Asked
@@ -129,51 +125,6 @@ abbrev pub left_after_all : List StepMade → List Awaited → List Awaited
 left_after_all [] awaited = awaited
 left_after_all (one ∷ more) awaited = left_after_all more (left_after (fallen_in one.step one.result) awaited)
 
--- the step posts a letter that does not stay in flight
-abbrev pub IsPost : StepMade → Type 0
-IsPost one = (letter : ℕ) × (one.step ≡ step.Post letter false)
-
--- the step failed: the disk of its node did, or it was refused
-abbrev pub has_failed : Result Said StepFault → Bool
-has_failed (Ok (said.Faulted node)) = true
-has_failed (Ok said) = false
-has_failed (Err why) = true
-
--- The letters in flight were posted, the lowest number first, until none was left or a step failed. They stand in order of number.
-abbrev pub PostsAll : {D : Type 0} → View D → List StepMade → World D → World D → Type 0
-PostsAll on [] old new = ((state_of old).flying.flights ≡ []) × (new ≡ old)
-PostsAll {D} on (one ∷ more) old new =
-    (letter : ℕ) × (mid : World D) × (first_number (state_of old).flying.flights ≡ Some letter) × (one.step ≡ step.Post letter false) × IsStep on one.result one.step old mid
-    × MatchBool (has_failed one.result) ((more ≡ []) × (new ≡ mid)) (PostsAll on more mid new)
-
--- so many nodes from this number on, but for one
-abbrev pub nodes_but : ℕ → ℕ → ℕ → List ℕ
-nodes_but node zero from = []
-nodes_but node (suc left) from = if nat_eq from node then nodes_but node left (from + 1) else from ∷ nodes_but node left (from + 1)
-
--- a node pushed to these, one after another, until a step failed
-abbrev pub PushesTo : ℕ → List ℕ → List StepMade → Type 0
-PushesTo node [] steps = steps ≡ []
-PushesTo node (to ∷ others) [] = ⊥
-PushesTo node (to ∷ others) (one ∷ more) = (one.step ≡ step.Push node to) × MatchBool (has_failed one.result) (more ≡ []) (PushesTo node others more)
-
--- A node that is up pushed to each other, in rising order, until a step failed; one that is not did nothing.
-pub record PushesAll (nodes : ℕ) (life : NodeLife) (node : ℕ) (steps : List StepMade) : Type 0 where
-  pub up : IsUp life → PushesTo node (nodes_but node nodes 1) steps
-  pub else_none : (IsUp life → ⊥) → steps ≡ []
-
--- a step that a regroup at this node makes
-abbrev pub IsOfRegroup : ℕ → StepMade → Type 0
-IsOfRegroup n one = (one.step ≡ step.Group n) ⊎ (one.step ≡ step.Conclude n) ⊎ IsPost one
-
-abbrev pub AreOfRegroup : ℕ → List StepMade → Type 0
-AreOfRegroup n [] = ⊤
-AreOfRegroup n (one ∷ more) = IsOfRegroup n one × AreOfRegroup n more
-
--- this one step was made
-abbrev pub MakesOne : {D : Type 0} → View D → Step → List StepMade → World D → World D → Type 0
-MakesOne on step steps old new = (result : Result Said StepFault) × (steps ≡ record { step = step; result = result } ∷ []) × IsStep on result step old new
-
 -- the steps that a run line asks for were made
 abbrev pub MakesOrder : {D : Type 0} → View D → ClusterOrder → List StepMade → World D → World D → Type 0
 MakesOrder on (order.Crash node) steps old new = MakesOne on (step.Crash node) steps old new
@@ -188,7 +139,7 @@ MakesOrder on (order.Widen at user id to) steps old new = MakesOne on (step.Wide
 MakesOrder on (order.Tick seconds) steps old new = MakesOne on (step.Tick seconds) steps old new
 MakesOrder on (order.Group node) steps old new = MakesOne on (step.Group node) steps old new
 MakesOrder on (order.Conclude node) steps old new = MakesOne on (step.Conclude node) steps old new
-MakesOrder on (order.Regroup node) steps old new = AreOfRegroup node steps × MakesSteps on steps old new
+MakesOrder on (order.Regroup node) steps old new = (result : Result Regroup StepFault) × MakesRegroup on node result steps old new
 MakesOrder on order.Sum steps old new = (steps ≡ []) × (new ≡ old)
 
 -- a refusal after which the world is as it was
@@ -233,7 +184,8 @@ Came on (KeptUp k ticket why) awaited old left new =
 Came on (Left k node user) awaited old left new =
     (begun : WorldCall) × (result : Result Said StepFault) × IsLeave user begun × IsStep on result (step.Begin node begun) old new
     × (left ≡ left_after (fallen_in (step.Begin node begun) result) awaited)
-Came on (Moved order steps sum) awaited old left new = MakesOrder on order steps old new × (left ≡ left_after_all steps awaited) × (sum ≡ sum_of (book_of old))
+Came on (Moved order steps sum up) awaited old left new =
+    MakesOrder on order steps old new × (left ≡ left_after_all steps awaited) × (sum ≡ sum_of (book_of old)) × (up ≡ nodes_up (life_of old) (plan_of old).nodes)
 
 -- the world made these steps, one after another, and no others
 abbrev pub Makes : {D : Type 0} → View D → List Outcome → List Awaited → World D → List Awaited → World D → Type 0

@@ -14,7 +14,8 @@ use Rattle.node_store.specs.Disks.{View}
 use Rattle.cluster_world.specs.Worlds.{plan_of, disks_of, book_of, disks_tell}
 use Rattle.cluster_world.specs.Steps.{IsBlind}
 use Rattle.cluster_world.specs.Opens.{IsAtBeginning}
-use Rattle.cluster_world.specs.Outcomes.{Outcome, Awaited, StepMade, Makes, asked_by_outcome, answered_by_outcome}
+use Rattle.cluster_world.specs.Made.{StepMade}
+use Rattle.cluster_world.specs.Outcomes.{Outcome, Awaited, Makes, asked_by_outcome, answered_by_outcome}
 use Rattle.cluster_world.specs.Outcomes.Outcome.{Began, Refused, Fell, Broke, StillPending, Moved}
 use Rattle.cluster_world.specs.declared.world.World.{World}
 
@@ -25,7 +26,7 @@ AreBlind nodes (one ∷ more) = IsBlind nodes one.step × AreBlind nodes more
 
 -- nor does any that led to this outcome; a step that a session leads to never does
 abbrev pub IsOfBlind : ℕ → Outcome → Type 0
-IsOfBlind nodes (Moved order steps sum) = AreBlind nodes steps
+IsOfBlind nodes (Moved order steps sum up) = AreBlind nodes steps
 IsOfBlind nodes outcome = ⊤
 
 abbrev pub AllBlind : ℕ → List Outcome → Type 0
@@ -42,7 +43,7 @@ IsOfSession lines (Began k node asked ticket) = IsSoundMail asked × IsTakenAt l
 IsOfSession lines (Fell k node asked) = IsSoundMail asked × IsTakenAt lines k node asked
 IsOfSession lines (Broke k node asked) = IsSoundMail asked × IsTakenAt lines k node asked
 IsOfSession lines (Refused k node asked) = IsSoundMail asked
-IsOfSession lines (Moved (order.Tick seconds) steps sum) = IsOnClock lines seconds
+IsOfSession lines (Moved (order.Tick seconds) steps sum up) = IsOnClock lines seconds
 IsOfSession lines outcome = ⊤
 
 abbrev pub AreOfSessions : List (List ℕ) → List Outcome → Type 0

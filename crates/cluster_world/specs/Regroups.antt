@@ -1,23 +1,26 @@
 -- What a regroup does: the steps that it makes, in which order, and where it stops.
-use Rattle.std.specs.Prelude.{◌≡◌, ◌⊎◌, ℕ, zero, suc, ◌+◌, ◌≤◌, ◌-◌, ◌*◌, Bool, true, false, ◌&&◌, nat_le, List, [], ◌∷◌, ◌++◌, length, map, ⊤, MatchBool, Option, Some, None, Result, Ok, Err}
+use Rattle.std.specs.Prelude.{◌≡◌, ◌⊎◌, ℕ, zero, suc, ◌+◌, ◌≤◌, ◌-◌, ◌*◌, Bool, true, false, ◌&&◌, ◌||◌, nat_le, List, [], ◌∷◌, ◌++◌, length, map, ⊤, MatchBool, Option, Some, None, Result, Ok, Err}
 use Rattle.std.specs.List.{list_any}
 use Rattle.mail_model.specs.Identity.{EpochId}
 use Rattle.object_model.specs.Letters.{Membership}
 use Rattle.cluster_model.specs.Cluster.{set_of_members}
 use Rattle.cluster_model.specs.Room.{Flight, octets_flying, most_letters, most_octets}
+use Rattle.cluster_model.specs.Steps.{letters_end}
 use Rattle.maps_model.specs.Cluster.{NamesNode}
 use Rattle.session_model.specs.Events.NodeLife.{Up}
 use Rattle.node_store.specs.Disks.{View}
 use Rattle.node_core.specs.declared.outbox.Why.TheVariants.{Old}
 use Rattle.node_maps.specs.Nodes.{node_of}
 use Rattle.whole_node.specs.declared.node.WholeNode.{WholeNode}
+use Rattle.cluster_world.specs.Forms.{has_used_up}
 use Rattle.cluster_world.specs.Lives.{of_node}
+use Rattle.cluster_world.specs.Made.{StepMade, MakesSteps, IsPost, IsOfRegroup, AreOfRegroup, has_failed}
+use Rattle.cluster_world.specs.Sound.{IsWhole}
 use Rattle.cluster_world.specs.Steps.{IsStep}
 use Rattle.cluster_world.specs.Turns.{node_refusal}
 use Rattle.cluster_world.specs.Worlds.{WorldState, state_of, plan_of, life_of, life_in}
-use Rattle.cluster_world.specs.Wholes.{IsWhole}
+use Rattle.cluster_world.specs.declared.life.Life.{Life}
 use Rattle.cluster_world.specs.declared.life.Life.TheVariants as lives
-use Rattle.cluster_world.specs.Outcomes.{StepMade, MakesSteps, IsPost, IsOfRegroup, AreOfRegroup, has_failed}
 use Rattle.cluster_world.specs.declared.world.World.{World}
 use Rattle.cluster_world.specs.declared.step.Step.{Step}
 use Rattle.cluster_world.specs.declared.step.Step.TheVariants as step
@@ -74,17 +77,27 @@ pub record EndsBy (result : Result Said StepFault) (steps : List StepMade) : Typ
 abbrev pub has_room_for_rounds : ℕ → List Flight → Bool
 has_room_for_rounds nodes flights = nat_le (length flights + 6 * nodes) most_letters && nat_le (octets_flying flights + 64 * (6 * nodes)) most_octets
 
--- The node was not to be refused; the regroup was, before anything was done, for want of room.
+-- whether a number that the group of this node needs is used up: that of letters, or the count of the node's epochs
+abbrev pub has_worn : Option Life → Bool
+has_worn None = false
+has_worn (Some life) = has_used_up life
+
+abbrev pub is_worn_at : {D : Type 0} → ℕ → WorldState D → Bool
+is_worn_at n state = nat_le letters_end state.flying.sent || has_worn (of_node state.lives n)
+
+-- The node was not to be refused, and no number was used up; the regroup was refused, before anything was done, for want of room.
 pub record LacksRoom {D : Type 0} (n : ℕ) (why : StepFault) (steps : List StepMade) (old : World D) : Type 0 where
   pub none : steps ≡ []
   pub is : why ≡ fault.NoRoom
   pub fit : node_refusal (plan_of old) (life_of old) (step.Group n) ≡ None
+  pub fresh : is_worn_at n (state_of old) ≡ false
   pub lacking : has_room_for_rounds (plan_of old).nodes (state_of old).flying.flights ≡ false
 
--- Where the node was not to be refused and anything was done, there was room.
+-- Where the node was not to be refused, no number was used up, and anything was done, there was room.
 abbrev pub BeginsWithRoom : {D : Type 0} → ℕ → List StepMade → World D → Type 0
 BeginsWithRoom n [] old = ⊤
-BeginsWithRoom n (one ∷ more) old = node_refusal (plan_of old) (life_of old) (step.Group n) ≡ None → has_room_for_rounds (plan_of old).nodes (state_of old).flying.flights ≡ true
+BeginsWithRoom n (one ∷ more) old =
+    node_refusal (plan_of old) (life_of old) (step.Group n) ≡ None → is_worn_at n (state_of old) ≡ false → has_room_for_rounds (plan_of old).nodes (state_of old).flying.flights ≡ true
 
 -- An epoch was formed, or a disk failed in the last step, or the last step was refused; or there was no room at the beginning.
 abbrev pub RegroupsSo : {D : Type 0} → ℕ → Result Regroup StepFault → List StepMade → World D → Type 0
@@ -195,9 +208,8 @@ module _ {D : Type 0} (on : View D) where
   FormsInOrder n (Ok (Fault failed)) old new steps = ⊤
   FormsInOrder n (Err why) old new steps = ⊤
 
-  -- a node regrouped
-  pub record HasRegrouped (n : ℕ) (result : Result Regroup StepFault) (old new : World D) : Type 0 where
-    pub steps : List StepMade
+  -- these steps were made as a node regrouped
+  pub record MakesRegroup (n : ℕ) (result : Result Regroup StepFault) (steps : List StepMade) (old new : World D) : Type 0 where
     pub made : MakesSteps on steps old new
     pub of : AreOfRegroup n steps
     pub begins : BeginsByGroup n steps
@@ -206,6 +218,10 @@ module _ {D : Type 0} (on : View D) where
     pub order : FormsInOrder n result old new steps
     -- in a world that stands for a sound one of the whole machine the epoch is one of just the nodes that were up
     pub forms : IsWhole on (plan_of old) old → FormsTheUp result (state_of old) (state_of new)
+
+  -- a node regrouped
+  abbrev pub HasRegrouped : ℕ → Result Regroup StepFault → World D → World D → Type 0
+  HasRegrouped n result old new = (steps : List StepMade) × MakesRegroup n result steps old new
 
   -- what the step said that a regroup halts with
   abbrev pub halted : Halt → Result Said StepFault

@@ -5,26 +5,18 @@ use Rattle.object_model.specs.Lists.{Among}
 use Rattle.object_model.specs.Letters.{Membership}
 use Rattle.object_model.specs.Letters.Body.{Install}
 use Rattle.cluster_model.specs.Room.{Flight}
-use Rattle.whole_world.specs.World as whole_world
-use Rattle.whole_world.specs.Laws.{Stands}
 use Rattle.node_store.specs.Disks.{View}
 use Rattle.node_maps.specs.Nodes.{node_of}
 use Rattle.whole_node.specs.declared.node.WholeNode.{WholeNode}
 use Rattle.cluster_world.specs.Lives.{of_node}
 use Rattle.cluster_world.specs.Lasting.{WasDriven}
-use Rattle.cluster_world.specs.Maps.{StandsForWhole}
 use Rattle.cluster_world.specs.Outcomes.{Outcome, Awaited}
+use Rattle.cluster_world.specs.Sound.{IsWhole}
 use Rattle.cluster_world.specs.Worlds.{WorldState, state_of}
 use Rattle.cluster_world.specs.declared.life.Life.TheVariants.{Up}
 use Rattle.cluster_world.specs.declared.world.World.{World}
 
--- it stands for a sound one
-pub record IsWhole {D : Type 0} (on : View D) (plan : Plan) (world : World D) : Type 0 where
-  pub v : whole_world.World
-  pub sound : Stands plan v
-  pub stands : StandsForWhole on (state_of world) v
-
--- A world that was driven does.
+-- A world that was driven stands for a sound one.
 abbrev pub WorldIsWhole : {D : Type 0} → View D → Type 0
 WorldIsWhole {D} on = (plan : Plan) (lines : List (List ℕ)) (outcomes : List Outcome) (left : List Awaited) (start last : World D)
     → WasDriven on plan lines outcomes left start last → IsWhole on plan last

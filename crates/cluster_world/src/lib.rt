@@ -62,7 +62,8 @@
 //!
 //! `HasRegrouped` in `specs/Regroups.antt` says which steps a regroup makes, in which order, and with which it stops. Where it
 //! formed an epoch in a world that stands for a sound one of the whole machine, just the nodes that were up are its members, each
-//! is up in the boot it was in, and each has installed the epoch (`HasFormed`).
+//! is up in the boot it was in, and each has installed the epoch (`HasFormed`). What a run line leads to has a whole regroup
+//! (`MakesOrder`), and with each run line which nodes were up.
 //!
 //! DIAGNOSTICS
 //!
@@ -74,7 +75,8 @@
 //! - `NoSuchTicket`: the ticket does not stand.
 //! - `NotAGroup`: the node has no group open that it could conclude.
 //! - `Worn`: a number that the step needs is used up. No letter is sent from the number 2^64 - 2^32 on.
-//! - `NoRoom`: letters are due, and not even the first finds room; of a group or its conclusion, not all of them do.
+//! - `NoRoom`: letters are due, and not even the first finds room; of a group or its conclusion, not all of them do. A
+//!   regroup is refused so where there is no room for its rounds, and no number is used up that its first step needs.
 //! - `NoMemory`: memory ran out. It may come before a refusal is found.
 //!
 //! All but `NoMemory` leave the world as it was. `NoMemory` does too where it names no node. A node that it names is down, with

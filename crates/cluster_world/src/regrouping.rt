@@ -1,14 +1,18 @@
 //! A whole regroup in one call: its rounds, its conclusion and its installs.
 ghost use Rattle.std.specs.Prelude.{◌≡◌, ◌-◌, ◌≤◌, false, None, ◌&&◌, ◌||◌, not, is_some};
 ghost use Rattle.node_store.specs.Disks.{view_of};
+ghost use Rattle.std.specs.Option.{option_copied};
+ghost use Rattle.cluster_world.specs.Forms.{has_used_up};
 ghost use Rattle.cluster_world.specs.Worlds.{state_of, plan_of, life_of, CanMakeSteps};
 ghost use Rattle.cluster_world.specs.Flights.{AreInOrder};
 ghost use Rattle.cluster_world.specs.Turns.{node_refusal};
 ghost use Rattle.cluster_world.specs.Steps.{AreSettled};
-ghost use Rattle.cluster_world.specs.Regroups.{has_room_for_rounds, is_old, failed_in, ended, StepsOn, PostsOn, AsksOn, AsksAgain, ConcludesOn, FormsOn, HasRegrouped};
+ghost use Rattle.cluster_world.specs.Regroups.{has_room_for_rounds, has_worn, is_worn_at, is_old, failed_in, ended, StepsOn, PostsOn, AsksOn, AsksAgain, ConcludesOn, FormsOn, HasRegrouped};
 ghost use Rattle.cluster_world.specs.declared.step.Step.TheVariants.{Group};
 
 use crate::fault::StepFault;
+use crate::flying::is_worn;
+use crate::life::Life;
 use crate::step::{Said, Step};
 use crate::world::World;
 use io_edge::Disk;
@@ -85,6 +89,26 @@ fn or_old(old: bool, said: &Said) -> bool
     ensures { result ≡ (old || is_old said.now) }
 {
     old || is_old(said)
+}
+
+/// Whether the count of epochs of a node that is up is used up.
+fn is_used_up(life: &Life) -> bool
+    ensures { result ≡ has_used_up life.now }
+{
+    match life {
+        Life::Up(node) => u64::MAX <= node.maps().group().heard(),
+        Life::Down | Life::Lost => false,
+    }
+}
+
+/// The same of a node, if the plan has it.
+fn has_worn(life: Option<&Life>) -> bool
+    ensures { result ≡ has_worn (option_copied life.entry) }
+{
+    match life {
+        Some(life) => is_used_up(life),
+        None => false,
+    }
 }
 
 impl<D: Disk> World<D> {
@@ -182,13 +206,20 @@ impl<D: Disk> World<D> {
         self.conclude_all(alloc, node)
     }
 
+    // Whether a number that the node's group needs is used up.
+    fn is_worn_at(&self, node: NodeNo) -> bool
+        ensures { result ≡ is_worn_at node (state_of self.now) }
+    {
+        is_worn(self.flying.sent()) || has_worn(self.nodes.life(node))
+    }
+
     // Whether the node could begin, and there is no room for the letters of it.
     fn lacks_room(&self, node: NodeNo) -> bool
-        ensures lacks { result ≡ (not (is_some (node_refusal (plan_of self.now) (life_of self.now) (Group node))) && not (has_room_for_rounds (plan_of self.now).nodes (state_of self.now).flying.flights)) }
+        ensures lacks { result ≡ ((not (is_some (node_refusal (plan_of self.now) (life_of self.now) (Group node))) && not (is_worn_at node (state_of self.now))) && not (has_room_for_rounds (plan_of self.now).nodes (state_of self.now).flying.flights)) }
         ensures order { AreInOrder (state_of self.now).flying }
     {
         let room = self.flying.has_room_for_rounds(self.nodes.plan().nodes);
-        self.nodes.refuses(&Step::Group { node }).is_none() && !room
+        self.nodes.refuses(&Step::Group { node }).is_none() && !self.is_worn_at(node) && !room
     }
 
     /// The node forms an epoch of just the nodes that are up: it opens a group, whose letters are posted in order, and then
@@ -199,7 +230,8 @@ impl<D: Disk> World<D> {
     /// # Errors
     ///
     /// `NoRoom` where there is not room for six letters for each node of the plan as it begins, and as the steps are refused;
-    /// what was done before stays done.
+    /// what was done before stays done. Where a number is used up that its first step needs, it is refused as `Worn`, also
+    /// where there is no room.
     pub fn regroup(&mut self, alloc: Global, node: NodeNo) -> Result<Regroup, StepFault>
         requires ready { CanMakeSteps D.seen self.old }
         ensures ready { CanMakeSteps D.seen self.new }

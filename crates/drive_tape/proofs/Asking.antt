@@ -183,7 +183,7 @@ module _ (p : Point) (place : ℕ) (asks : AsksFrom place p) (plain : Session) (
       new = Unanswered (place + 1) call ticket ∷ [];
       lacking = [];
       extra = Made.Asks (place + 1) ∷ [];
-      linked = to_untold OutOfMemory p.outcomes (Unanswered (place + 1) call ticket) tt;
+      linked = to_untold OutOfMemory plan p.been p.outcomes (Unanswered (place + 1) call ticket) tt;
       at_nodes = (tt, tt);
       came = refl;
       asked = inr (asks.from, place + 1, asks.ready, first_waits, refl);

@@ -236,7 +236,7 @@ module _ {D : Type 0} (on : View D) (start : World D) (plan : Plan) (p : Point) 
       new = outcome ∷ [];
       lacking = lacking;
       extra = [];
-      linked = to_nothing p.outcomes (place + 1) b.one b.asked outcome lacking b.asks nothing;
+      linked = to_nothing plan p.been p.outcomes (place + 1) b.one b.asked outcome lacking b.asks nothing;
       at_nodes = (own, tt);
       came = refl;
       asked = inl refl;

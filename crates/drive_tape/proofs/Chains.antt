@@ -9,7 +9,8 @@ use Rattle.node_store.specs.Disks.{View}
 use Rattle.cluster_world.specs.Lives.{of_node}
 use Rattle.cluster_world.specs.Worlds.{WorldState, state_of, disk_in, disk_of_node, disks_tell, tells_in, StateStandsFor, StandsFor}
 use Rattle.cluster_world.specs.Steps.{StepDid}
-use Rattle.cluster_world.specs.Outcomes.{Outcome, Awaited, StepMade, Came, Makes, MakesSteps}
+use Rattle.cluster_world.specs.Made.{StepMade, MakesSteps}
+use Rattle.cluster_world.specs.Outcomes.{Outcome, Awaited, Came, Makes}
 use Rattle.cluster_world.specs.Outcomes.Outcome.{Began, Refused, Fell, Broke, Answers, StillPending, Unanswered, GaveUp, Abandoned, KeptUp, Left, Moved}
 use Rattle.cluster_world.specs.declared.world.World.{World}
 use Rattle.cluster_world.specs.declared.step.Step.{Step}
@@ -84,7 +85,7 @@ module _ {D : Type 0} (on : View D) where
   carries_came (Abandoned k asked ticket) awaited left old new came = carries_step _ _ _ _ came.1.did
   carries_came (KeptUp k ticket why) awaited left old new came = carries_step _ _ _ _ came.2.did
   carries_came (Left k node user) awaited left old new came = carries_step _ _ _ _ came.3.did
-  carries_came (Moved order steps sum) awaited left old new came = carries_steps steps old new (order_makes on order steps old new came.0)
+  carries_came (Moved order steps sum up) awaited left old new came = carries_steps steps old new (order_makes on order steps old new came.0)
 
   pub carries_makes : (outcomes : List Outcome) (awaited left : List Awaited) (old new : World D) → Makes on outcomes awaited old left new → Carries on (state_of old) (state_of new)
   carries_makes [] awaited left old new made = subst (λ (w : World D). Carries on (state_of old) (state_of w)) (sym made.1) (carries_none (state_of old))
@@ -132,7 +133,7 @@ module _ {D : Type 0} (on : View D) where
   stands_came (Abandoned k asked ticket) awaited left old new came whole = stands_step _ _ _ _ came.1.did tt
   stands_came (KeptUp k ticket why) awaited left old new came whole = stands_step _ _ _ _ came.2.did tt
   stands_came (Left k node user) awaited left old new came whole = stands_step _ _ _ _ came.3.did (leave_ended user came.0 came.2)
-  stands_came (Moved order steps sum) awaited left old new came whole = stands_steps steps old new (order_makes on order steps old new came.0) (are_ended order steps (order_are on order steps old new came.0))
+  stands_came (Moved order steps sum up) awaited left old new came whole = stands_steps steps old new (order_makes on order steps old new came.0) (are_ended order steps (order_are on order steps old new came.0))
 
   stands_makes : (outcomes : List Outcome) (awaited left : List Awaited) (old new : World D) → Makes on outcomes awaited old left new → AreWhole outcomes → disks_tell on.seen old ≡ true → ((w : machine.World) × StandsFor on old w)
       → ((w : machine.World) × StandsFor on new w)

@@ -2,6 +2,7 @@
 use Rattle.std.proofs.Common.{◌≡◌, ◌⊎◌, inl, inr, ⊎_elim, ℕ, List, [], ◌∷◌, ◌++◌, flat_map, Option, Some, None, Result, Ok, Err, refl, sym, ap, ◌∙◌, subst}
 use Rattle.std.specs.Prelude.{All}
 use Rattle.std.proofs.lemmas.List.Elements.{All-head, All-tail}
+use Rattle.mail_model.specs.Plan.{Plan}
 use Rattle.mail_model.specs.Stored.{IsTicked}
 use Rattle.mail_model.specs.Tape.{ClusterOrder, tape_order}
 use Rattle.mail_model.specs.Tape.{ClusterOrder as order}
@@ -15,13 +16,16 @@ use Rattle.session_model.specs.Events.{ClusterEvent as event}
 use Rattle.session_model.specs.Acts.{Act}
 use Rattle.session_model.specs.Acts.Act.{Opens, Does, Faults, StillWaits, Leaves, Makes, Abandons}
 use Rattle.session_model.specs.Acts.Deed.{IsFed, Hears, IsAnswered, IsGivenUp, Falls, Closes}
+use Rattle.session_model.specs.Lives.{life_after}
 use Rattle.session_model.specs.Clocks.{seconds_by_order, seconds_by, seconds_from, seconds_after}
 use Rattle.node_store.specs.Disks.{View}
+use Rattle.cluster_world.specs.Lives.{nodes_up}
 use Rattle.cluster_world.specs.Turns.{seconds_after_step}
 use Rattle.cluster_world.specs.Worlds.{state_of, plan_of}
 use Rattle.cluster_world.specs.Steps.{IsStep}
 use Rattle.cluster_world.specs.Opens.{IsAtBeginning}
-use Rattle.cluster_world.specs.Outcomes.{Outcome, Awaited, StepMade, MakesSteps, IsPost, IsOfRegroup, AreOfRegroup, MakesOne, MakesOrder, Came, Makes as MakesAll}
+use Rattle.cluster_world.specs.Made.{StepMade, MakesSteps, IsPost, IsOfRegroup, AreOfRegroup, MakesOne}
+use Rattle.cluster_world.specs.Outcomes.{Outcome, Awaited, MakesOrder, Came, Makes as MakesAll}
 use Rattle.cluster_world.specs.Outcomes.Outcome.{Began, Fell, Answers, StillPending, GaveUp, Abandoned, Left, Moved}
 use Rattle.cluster_world.specs.declared.world.World.{World}
 use Rattle.cluster_world.specs.declared.step.Step.{Step}
@@ -147,48 +151,48 @@ module _ {D : Type 0} (on : View D) where
       let m = subst (λ (o : List Outcome). MakesAll on (o ++ others) awaited old left new) is makes in
       record { between = m.0; mid = m.1; clock = clock m.0 m.1 m.2; rest = m.3 }
 
-  hears : (k : ℕ) (one : Exchange) (before : List Outcome) (own others : List Outcome) (awaited left : List Awaited) (old new : World D) (call : Option Call) → one.call ≡ call
-      → Led before (Does k (Hears one)) own → MakesAll on (own ++ others) awaited old left new → GoesOn (Does k (Hears one)) others old left new
-  hears k one before own others awaited left old new None is led makes =
+  hears : (k : ℕ) (one : Exchange) (plan : Plan) (been : List Act) (before : List Outcome) (own others : List Outcome) (awaited left : List Awaited) (old new : World D) (call : Option Call) → one.call ≡ call
+      → Led plan been before (Does k (Hears one)) own → MakesAll on (own ++ others) awaited old left new → GoesOn (Does k (Hears one)) others old left new
+  hears k one plan been before own others awaited left old new None is led makes =
       none_goes (Does k (Hears one)) own others awaited left old new refl (subst (λ (c : Option Call). Begins k c own) is led) makes
-  hears k one before own others awaited left old new (Some call) is led makes =
+  hears k one plan been before own others awaited left old new (Some call) is led makes =
       let l : Begins k (Some call) own = subst (λ (c : Option Call). Begins k c own) is led in ⊎_elim
       (λ (begun : (ticket : _) × (own ≡ Began k l.0 call ticket ∷ [])).
       one_goes (Does k (Hears one)) own others (Began k l.0 call begun.0) awaited left old new (λ between mid came. came.3.did.clock) begun.1 makes)
       (λ (fell : own ≡ Fell k l.0 call ∷ []). one_goes (Does k (Hears one)) own others (Fell k l.0 call) awaited left old new (λ between mid came. came.2.did.clock) fell makes)
       l.1
 
-  act_goes : (act : Act) (before own others : List Outcome) (awaited left : List Awaited) (old new : World D) → Led before act own → MakesAll on (own ++ others) awaited old left new → GoesOn act others old left new
-  act_goes (Opens protocol node greeting) before own others awaited left old new led makes = none_goes _ own others awaited left old new refl led makes
-  act_goes (Does k (Hears one)) before own others awaited left old new led makes = hears k one before own others awaited left old new one.call refl led makes
-  act_goes (Does k (IsAnswered call answer reply)) before own others awaited left old new (ticket, is) makes =
+  act_goes : (act : Act) (plan : Plan) (been : List Act) (before own others : List Outcome) (awaited left : List Awaited) (old new : World D) → Led plan been before act own → MakesAll on (own ++ others) awaited old left new → GoesOn act others old left new
+  act_goes (Opens protocol node greeting) plan been before own others awaited left old new led makes = none_goes _ own others awaited left old new refl led makes
+  act_goes (Does k (Hears one)) plan been before own others awaited left old new led makes = hears k one plan been before own others awaited left old new one.call refl led makes
+  act_goes (Does k (IsAnswered call answer reply)) plan been before own others awaited left old new (ticket, is) makes =
       one_goes _ own others (Answers k call ticket answer) awaited left old new (λ between mid came. came.3.did.clock) is makes
-  act_goes (Does k (IsGivenUp call reply)) before own others awaited left old new (ticket, is) makes =
+  act_goes (Does k (IsGivenUp call reply)) plan been before own others awaited left old new (ticket, is) makes =
       one_goes _ own others (GaveUp k call ticket) awaited left old new (λ between mid came. came.1.did.clock) is makes
-  act_goes (Does k (IsFed octets)) before own others awaited left old new led makes = none_goes _ own others awaited left old new refl led makes
-  act_goes (Does k Falls) before own others awaited left old new led makes = none_goes _ own others awaited left old new refl led makes
-  act_goes (Does k Closes) before own others awaited left old new led makes = none_goes _ own others awaited left old new refl led makes
-  act_goes (Faults node) before own others awaited left old new led makes = none_goes _ own others awaited left old new refl led.0 makes
-  act_goes (StillWaits k) before own others awaited left old new (ticket, is) makes =
+  act_goes (Does k (IsFed octets)) plan been before own others awaited left old new led makes = none_goes _ own others awaited left old new refl led makes
+  act_goes (Does k Falls) plan been before own others awaited left old new led makes = none_goes _ own others awaited left old new refl led makes
+  act_goes (Does k Closes) plan been before own others awaited left old new led makes = none_goes _ own others awaited left old new refl led makes
+  act_goes (Faults node) plan been before own others awaited left old new led makes = none_goes _ own others awaited left old new refl led.0 makes
+  act_goes (StillWaits k) plan been before own others awaited left old new (ticket, is) makes =
       one_goes _ own others (StillPending k ticket) awaited left old new (λ between mid came. came.4.did.clock) is makes
-  act_goes (Leaves k user) before own others awaited left old new (node, is) makes =
+  act_goes (Leaves k user) plan been before own others awaited left old new (node, is) makes =
       one_goes _ own others (Left k node user) awaited left old new (λ between mid came. came.3.did.clock) is makes
-  act_goes (Makes asked happened) before own others awaited left old new (steps, sum, is, tells) makes =
-      one_goes _ own others (Moved asked steps sum) awaited left old new (λ between mid came. order_clock asked steps sum happened old mid came.0 tells) is makes
-  act_goes (Abandons k) before own others awaited left old new (call, ticket, is) makes =
+  act_goes (Makes asked happened) plan been before own others awaited left old new (steps, sum, is, tells) makes =
+      one_goes _ own others (Moved asked steps sum (nodes_up (life_after been) plan.nodes)) awaited left old new (λ between mid came. order_clock asked steps sum happened old mid came.0 tells) is makes
+  act_goes (Abandons k) plan been before own others awaited left old new (call, ticket, is) makes =
       one_goes _ own others (Abandoned k call ticket) awaited left old new (λ between mid came. came.1.did.clock) is makes
 
-  goes : (acts : List Act) (before outcomes : List Outcome) (awaited left : List Awaited) (old new : World D) → AreLed before acts outcomes → MakesAll on outcomes awaited old left new
+  goes : (acts : List Act) (plan : Plan) (been : List Act) (before outcomes : List Outcome) (awaited left : List Awaited) (old new : World D) → AreLed plan been before acts outcomes → MakesAll on outcomes awaited old left new
       → shown new ≡ seconds_from (shown old) acts
-  goes [] before outcomes awaited left old new none makes =
+  goes [] plan been before outcomes awaited left old new none makes =
       let m = subst (λ (o : List Outcome). MakesAll on o awaited old left new) none makes in ap (λ (w : World D). shown w) m.1
-  goes (act ∷ acts) before outcomes awaited left old new (own, others, are, led, more) makes =
-      let first = act_goes act before own others awaited left old new led (subst (λ (o : List Outcome). MakesAll on o awaited old left new) are makes) in
-      goes acts (before ++ own) others first.between left first.mid new more first.rest ∙ ap (λ (s : ℕ). seconds_from s acts) first.clock
+  goes (act ∷ acts) plan been before outcomes awaited left old new (own, others, are, led, more) makes =
+      let first = act_goes act plan been before own others awaited left old new led (subst (λ (o : List Outcome). MakesAll on o awaited old left new) are makes) in
+      goes acts plan (been ++ act ∷ []) (before ++ own) others first.between left first.mid new more first.rest ∙ ap (λ (s : ℕ). seconds_from s acts) first.clock
 
 -- the clock of the world that was driven so far
 pub on_time : {D : Type 0} (on : View D) (start : World D) (left0 left1 held0 held1 : Option (List ℕ)) (cluster : Cluster D) (count room : ℕ) → IsAtBeginning on (plan_of start) start
     → (p : Progress on start left0 left1 held0 held1 cluster count room) → IsOnTime cluster.world p.point
 on_time on start left0 left1 held0 held1 cluster count room begins p =
-    goes on (flat_map (λ a. a) p.acts) [] p.point.outcomes [] p.point.awaited start cluster.world p.linked p.shows.at.made
+    goes on (flat_map (λ a. a) p.acts) (plan_of start) [] [] p.point.outcomes [] p.point.awaited start cluster.world p.linked p.shows.at.made
     ∙ ap (λ (s : ℕ). seconds_from s (flat_map (λ a. a) p.acts)) begins.stands.seconds ∙ ap seconds_after (sym p.been)

@@ -47,7 +47,7 @@ use Rattle.drive_tape.specs.Stops.{of_line}
 use Rattle.drive_tape.specs.Talks.{Converse}
 use Rattle.drive_tape.specs.Worlds.{WorldIsAt, IsSince, AreLives, HasCauses}
 use Rattle.drive_tape.proofs.AtFirst.{first_lives, node_within}
-use Rattle.drive_tape.proofs.Kept.{kept_in, none_waits, letters_in, whole_in, one_map_in}
+use Rattle.drive_tape.proofs.Kept.{kept_in, none_waits, letters_in, whole_in, one_map_in, names_in}
 use Rattle.drive_tape.proofs.OwnNodes.{NodesStay, all_stay, at_nodes_more}
 use Rattle.drive_tape.proofs.Wholes.{stays_whole}
 use Rattle.drive_tape.proofs.Led.{AreLinked, MayLackOne, led_more, to_none, to_more, to_linked, to_waits}
@@ -154,9 +154,10 @@ goes_on on start left0 left1 left2 held0 held1 held2 old new count room1 room2 r
       point = went.q;
       are = handled_more (plan_of start) [] [] p.handled p.acts p.outputs p.point.sessions step.0 went.acts went.outputs went.q.sessions p.are
           (subst (λ (d : List Act). IsHandled (plan_of start) d p.point.sessions step.0 went.acts went.outputs went.q.sessions) p.been went.handled);
-      linked = subst (λ (by : List Act). AreLed [] by went.q.outcomes) (sym (flat_last (λ a. a) p.acts went.acts))
-          (subst (λ (os : List Outcome). AreLed [] (joined p.acts ++ went.acts) os) (sym went.came)
-          (led_more [] (joined p.acts) p.point.outcomes went.acts went.outcomes p.linked went.linked));
+      linked = subst (λ (by : List Act). AreLed (plan_of start) [] [] by went.q.outcomes) (sym (flat_last (λ a. a) p.acts went.acts))
+          (subst (λ (os : List Outcome). AreLed (plan_of start) [] [] (joined p.acts ++ went.acts) os) (sym went.came)
+          (led_more (plan_of start) [] [] (joined p.acts) p.point.outcomes went.acts went.outcomes p.linked
+          (subst (λ (d : List Act). AreLed (plan_of start) d p.point.outcomes went.acts went.outcomes) p.been went.linked)));
       at_nodes = subst (AreAtOwnNodes went.q.sessions) (sym went.came)
           (at_nodes_more p.point.sessions went.q.sessions (line_stays (plan_of start) p.point.been p.point.sessions went.q.sessions step.0 went.acts went.outputs went.handled) p.point.outcomes went.outcomes p.at_nodes went.at_nodes);
       been = went.been ∙ ap (λ (l : List Act). l ++ went.acts) p.been ∙ sym (flat_last (λ a. a) p.acts went.acts);
@@ -176,7 +177,7 @@ pub record Halt {D : Type 0} (on : View D) (start : World D) (plan : Plan) (p : 
   pub extra : List Made
   pub off : IsLeftOff plan p.been stop p.sessions midst behind tail extra sessions
   pub lacking : List Asked
-  pub linked : AreLedTo stop p.outcomes (joined behind) new lacking extra
+  pub linked : AreLedTo stop plan p.been p.outcomes (joined behind) new lacking extra
   pub at_nodes : AreAtOwnNodes sessions new
   pub since : IsSince on start (p.outcomes ++ new) world
   pub lives : (stop ≡ OutOfMemory → ⊥) → AreLives plan (p.been ++ joined behind) world
@@ -197,7 +198,7 @@ halt_none on start plan p held cluster stop shows same other undenied = record {
   extra = [];
   off = (refl, refl, refl, other, undenied);
   lacking = [];
-  linked = to_none stop p.outcomes;
+  linked = to_none stop plan p.been p.outcomes;
   at_nodes = tt;
   since = (p.awaited, subst (λ (os : List Outcome). WorldIsAt on start os p.awaited cluster.world) (sym (append-nil p.outcomes)) shows.at);
   lives = λ not. subst (λ (d : List Act). AreLives plan d cluster.world) (sym (append-nil p.been)) shows.lives;
@@ -298,12 +299,13 @@ module _ {D : Type 0} (on : View D) (start : World D) (left0 left1 left2 held0 h
       steps = are;
     }
 
-    led : AreLedTo stop [] (joined (p.acts ++ h.behind)) (p.point.outcomes ++ new) h.lacking h.extra
-    led = subst (λ (by : List Act). AreLedTo stop [] by (p.point.outcomes ++ new) h.lacking h.extra) (sym (flat_map-append (λ a. a) p.acts h.behind))
-        (to_more stop [] (joined p.acts) p.point.outcomes (joined h.behind) new h.lacking h.extra p.linked h.linked)
+    led : AreLedTo stop (plan_of start) [] [] (joined (p.acts ++ h.behind)) (p.point.outcomes ++ new) h.lacking h.extra
+    led = subst (λ (by : List Act). AreLedTo stop (plan_of start) [] [] by (p.point.outcomes ++ new) h.lacking h.extra) (sym (flat_map-append (λ a. a) p.acts h.behind))
+        (to_more stop (plan_of start) [] [] (joined p.acts) p.point.outcomes (joined h.behind) new h.lacking h.extra p.linked
+        (subst (λ (d : List Act). AreLedTo stop (plan_of start) d p.point.outcomes (joined h.behind) new h.lacking h.extra) p.been h.linked))
 
     linked : AreLinked (joined (p.acts ++ h.behind)) (p.point.outcomes ++ new) h.lacking h.extra × MayLackOne stop h.lacking
-    linked = to_linked stop [] (joined (p.acts ++ h.behind)) (p.point.outcomes ++ new) h.lacking h.extra led
+    linked = to_linked stop (plan_of start) [] [] (joined (p.acts ++ h.behind)) (p.point.outcomes ++ new) h.lacking h.extra led
 
     is_driven : IsDriven (plan_of start) stop p.handled midst p.acts h.behind (map made_of (p.point.outcomes ++ new)) entries sessions
     is_driven = driven stop h.tail h.extra (map made_of (p.point.outcomes ++ new)) linked.0.made h.off
@@ -352,7 +354,7 @@ module _ {D : Type 0} (on : View D) (start : World D) (left0 left1 left2 held0 h
       at_nodes = nodes_are;
       lives = λ not. subst (λ (d : List Act). AreLives (plan_of start) d world) (ap (λ (l : List Act). l ++ joined h.behind) p.been ∙ sym (flat_map-append (λ a. a) p.acts h.behind)) (h.lives not);
       none_waits = none_waits on start world begins stop p.handled midst p.acts h.behind _ entries sessions is_driven (p.point.outcomes ++ new) h.since.0 h.since.1.made refl nodes_are
-          (λ k among. to_waits k stop [] (joined (p.acts ++ h.behind)) (p.point.outcomes ++ new) h.lacking h.extra led among);
+          (λ k among. to_waits k stop (plan_of start) [] [] (joined (p.acts ++ h.behind)) (p.point.outcomes ++ new) h.lacking h.extra led among);
       why = subst (λ (d : List Act). Stops (stop_of answer) stop (plan_of start) d sessions midst left2 others room2 (p.point.outcomes ++ new)) p.been stops;
       number = subst (λ (n : ℕ). NamesLine answer (from + n + 1)) (sym p.counted) names;
       whole = uncut on start (plan_of start) p.point held2 world stop midst sessions new h;
@@ -362,6 +364,7 @@ module _ {D : Type 0} (on : View D) (start : World D) (left0 left1 left2 held0 h
           (plan_stays on (p.point.outcomes ++ new) [] h.since.0 start world h.since.1.made).0;
       sound = whole_in on start world begins stop p.handled midst p.acts h.behind _ entries sessions is_driven (p.point.outcomes ++ new) h.since.0 h.since.1.made refl nodes_are;
       one_map = one_map_in on start world begins stop p.handled midst p.acts h.behind _ entries sessions is_driven (p.point.outcomes ++ new) h.since.0 h.since.1.made refl nodes_are;
+      named = names_in on start world begins stop p.handled midst p.acts h.behind _ entries sessions is_driven (p.point.outcomes ++ new) h.since.0 h.since.1.made refl nodes_are h.lacking h.extra led;
       quiet = stays_whole on (p.point.outcomes ++ new) h.since.0 start world;
       kept = kept_in on start world begins stop p.handled midst p.acts h.behind _ entries sessions is_driven (p.point.outcomes ++ new) h.since.0 h.since.1.made refl nodes_are
           owing h.lacking linked.0.asked linked.1 linked.0.answered (plan_stays on (p.point.outcomes ++ new) [] h.since.0 start world h.since.1.made).0;

@@ -61,7 +61,7 @@ module _ {D : Type 0} (on : View D) (start : World D) (plan : Plan) (p : Point) 
     new = [];
     why = is;
     lacking = [];
-    linked = to_none stop p.outcomes;
+    linked = to_none stop plan p.been p.outcomes;
     at_nodes = tt;
     since = subst (λ (os : List Outcome). IsSince on start os world) (sym (append-nil p.outcomes)) since;
     lives = λ not. subst (λ (been : List Act). AreLives plan been world) (sym (append-nil p.been)) lives;
@@ -99,7 +99,7 @@ module _ {D : Type 0} (on : View D) (start : World D) (plan : Plan) (p : Point) 
     new = outcome ∷ [];
     why = is;
     lacking = [];
-    linked = to_untold stop p.outcomes outcome untold;
+    linked = to_untold stop plan p.been p.outcomes outcome untold;
     at_nodes = (own, tt);
     since = since;
     lives = λ not. subst (λ (been : List Act). AreLives plan been world) (sym (append-nil p.been)) (lives not);

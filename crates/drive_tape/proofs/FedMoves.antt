@@ -26,7 +26,8 @@ use Rattle.session_model.specs.Turns.{Turn, IsReadyToAsk, turn_after_event}
 use Rattle.session_model.specs.Turns.Turn.{Falling, Asking}
 use Rattle.session_model.specs.Run.{refusal, cluster_refusal, fault_if, is_no_node, work_fault, start_fault, loss_fault}
 use Rattle.node_store.specs.Disks.{View}
-use Rattle.cluster_world.specs.Outcomes.{left_after}
+use Rattle.cluster_world.specs.Lives.{nodes_up}
+use Rattle.cluster_world.specs.Outcomes.{moved_in, left_after}
 use Rattle.cluster_world.specs.Outcomes.Outcome.{Moved}
 use Rattle.cluster_world.specs.Worlds.{plan_of, life_of, book_of}
 use Rattle.cluster_world.specs.declared.world.World.{World}
@@ -51,6 +52,7 @@ use Rattle.drive_tape.proofs.Fed.{in_vain}
 use Rattle.drive_tape.proofs.FedOpens.{node_alike}
 use Rattle.drive_tape.proofs.Joins.{stops_event}
 use Rattle.drive_tape.proofs.Stepping.{life_more}
+use Rattle.drive_tape.proofs.NodesUp.{up_alike}
 use Rattle.drive_tape.proofs.Talks.{some_same}
 
 -- what the definitions refuse, the world does, and no more
@@ -181,7 +183,7 @@ module _ {D : Type 0} (on : View D) (start : World D) (plan : Plan) (p : Point) 
   moved_point held = record p {
     turn = turn_after_event (event_seen event);
     been = p.been ++ Makes h.order (event_seen event) ∷ [];
-    outcomes = p.outcomes ++ Moved h.order h.happened.steps (sum_of (book_of h.old.world)) ∷ [];
+    outcomes = p.outcomes ++ moved_in h.old.world h.order h.happened.steps ∷ [];
     awaited = left_after (fallen_by (event_seen event)) p.awaited;
     held = held;
   }
@@ -198,8 +200,17 @@ module _ {D : Type 0} (on : View D) (start : World D) (plan : Plan) (p : Point) 
       (λ (now : Among n (failed_by_event (event_seen event) ++ [])). h.happened.cause n (subst (Among n) (append-nil (failed_by_event (event_seen event))) now))
       (among_split n (failed_in p.been) (failed_by_event (event_seen event) ++ []) (subst (Among n) (flat_map-append failed_by p.been (Makes h.order (event_seen event) ∷ [])) among))
 
-  linked_so : Led p.outcomes (Makes h.order (event_seen event)) (Moved h.order h.happened.steps (sum_of (book_of h.old.world)) ∷ [])
-  linked_so = (h.happened.steps, sum_of (book_of h.old.world), refl, h.happened.tells)
+  -- the nodes that were up are those that the acts so far left so
+  same_up : nodes_up (life_of h.old.world) (plan_of h.old.world).nodes ≡ nodes_up (life_after p.been) plan.nodes
+  same_up = ap (λ (pl : Plan). nodes_up (life_of h.old.world) pl.nodes) h.plan_is ∙ up_alike plan (life_of h.old.world) (life_after p.been) h.shows.lives
+
+  linked_so : Led plan p.been p.outcomes (Makes h.order (event_seen event)) (moved_in h.old.world h.order h.happened.steps ∷ [])
+  linked_so = (
+    h.happened.steps,
+    sum_of (book_of h.old.world),
+    ap (λ (up : List ℕ). Moved h.order h.happened.steps (sum_of (book_of h.old.world)) up ∷ []) same_up,
+    h.happened.tells,
+  )
 
   pub moved_started : (held : Option (List ℕ)) → Appends p.held held (written_of (event_entries (event_seen event))) → IsStarted plan p (moved_point held) (Moves h.order)
   moved_started held gave = record {
@@ -208,7 +219,7 @@ module _ {D : Type 0} (on : View D) (start : World D) (plan : Plan) (p : Point) 
     said = event_entries (event_seen event);
     starts = (event_seen event, is_event, refl, refl);
     acted = (refl, refl);
-    outcomes = Moved h.order h.happened.steps (sum_of (book_of h.old.world)) ∷ [];
+    outcomes = moved_in h.old.world h.order h.happened.steps ∷ [];
     linked = linked_so;
     at_nodes = (tt, tt);
     came = refl;
@@ -219,7 +230,7 @@ module _ {D : Type 0} (on : View D) (start : World D) (plan : Plan) (p : Point) 
   pub stops_moved : (reason : WriteStop) (held : Option (List ℕ)) → WritesOrStops p.held held (Err reason) (event_entries (event_seen event)) → LineStopped on start plan p line (of_write reason) held cluster.world
   stops_moved reason held wrote =
       stops_event on start plan p (Moves h.order) line h.spelled h.accepted (Makes h.order (event_seen event)) (event_entries (event_seen event)) (turn_after_event (event_seen event)) p.sessions
-      (event_seen event, is_event, refl, refl) (refl, refl) (Moved h.order h.happened.steps (sum_of (book_of h.old.world)) ∷ []) linked_so (tt, tt) reason held cluster.world wrote
+      (event_seen event, is_event, refl, refl) (refl, refl) (moved_in h.old.world h.order h.happened.steps ∷ []) linked_so (tt, tt) reason held cluster.world wrote
       (left_after (fallen_by (event_seen event)) p.awaited, h.happened.at.at) lives_now causes_now
 
   pub may_fall : (held : Option (List ℕ)) (fallen : Option ℕ) → fallen_by (event_seen event) ≡ fallen → MayFallBy on start plan (moved_point held) fallen cluster
@@ -258,5 +269,5 @@ pub moved_in_vain : {D : Type 0} (on : View D) (start : World D) (plan : Plan) (
 moved_in_vain on start plan p line one stop held old world same spelled accepted lives causes so =
     let denied = so.2 in
     let gone = so.3 in
-    in_vain on start plan p line held world same (Moves one) spelled accepted (Moved one so.1 (sum_of (book_of old))) (so.0, refl) (denied.why, denied.denied) tt (gone.0, gone.1.at) (gone.1.causes (failed_in p.been) causes) denied.why stop denied.stops
+    in_vain on start plan p line held world same (Moves one) spelled accepted (moved_in old one so.1) (so.0, refl) (denied.why, denied.denied) tt (gone.0, gone.1.at) (gone.1.causes (failed_in p.been) causes) denied.why stop denied.stops
     (λ f is. (denied.why, denied.denied, is)) (λ f is n there. so.4 f (denied.stops ∙ is) n ∙ lives n there)

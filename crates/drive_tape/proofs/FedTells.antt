@@ -176,7 +176,7 @@ module _ {D : Type 0} (on : View D) (start : World D) (plan : Plan) (p : Point) 
   causes_now : HasCauses on start (failed_in p.been) old.world
   causes_now = subst (λ (been : List Act). HasCauses on start (failed_in been) old.world) (append-nil p.been) g.freed.causes
 
-  linked_so : (asked : calls.Call) (reply : List (List ℕ)) → g.call ≡ asked → Led p.outcomes (Does (place + 1) (IsGivenUp asked reply)) (GaveUp (place + 1) g.call g.ticket ∷ [])
+  linked_so : (asked : calls.Call) (reply : List (List ℕ)) → g.call ≡ asked → Led plan p.been p.outcomes (Does (place + 1) (IsGivenUp asked reply)) (GaveUp (place + 1) g.call g.ticket ∷ [])
   linked_so asked reply same = (g.ticket, ap (λ (c : calls.Call). GaveUp (place + 1) c g.ticket ∷ []) same)
 
   -- memory ran out before it was told so

@@ -12,9 +12,9 @@ use Rattle.node_store.specs.Disks.{View}
 use Rattle.cluster_world.specs.Worlds.{state_of, plan_of, life_of, life_in, book_of}
 use Rattle.cluster_world.specs.Steps.{IsStep, SaysSo, FallsSo, WasToWork}
 use Rattle.cluster_world.specs.Turns.{life_after_step}
-use Rattle.cluster_world.specs.Regroups.{AllWentOn, BeginsByGroup, FormsBy, EndsBy, LacksRoom, RegroupsSo, HasRegrouped}
-use Rattle.cluster_world.specs.Outcomes.{Outcome, Awaited, StepMade, MakesSteps, IsPost, IsOfRegroup, AreOfRegroup, has_failed, fallen_in, left_after_all}
-use Rattle.cluster_world.specs.Outcomes.Outcome.{Moved}
+use Rattle.cluster_world.specs.Regroups.{AllWentOn, BeginsByGroup, FormsBy, EndsBy, LacksRoom, RegroupsSo, MakesRegroup, HasRegrouped}
+use Rattle.cluster_world.specs.Made.{StepMade, MakesSteps, IsPost, IsOfRegroup, AreOfRegroup, has_failed}
+use Rattle.cluster_world.specs.Outcomes.{Outcome, Awaited, moved_in, fallen_in, left_after_all}
 use Rattle.cluster_world.specs.declared.world.World.{World}
 use Rattle.cluster_world.specs.declared.step.Step.{Step}
 use Rattle.cluster_world.specs.declared.step.Step.TheVariants as step
@@ -91,57 +91,55 @@ module _ {D : Type 0} (on : View D) (start old : World D) (outcomes : List Outco
   -- an epoch was formed
   pub formed : (new : World D) (result : Result Regroup StepFault) (epoch : EpochId) (members : ℕ) → HasRegrouped on node result old new → result ≡ Ok (Formed epoch members)
       → Happened on start outcomes awaited been old (order.Regroup node) (HasFormed epoch members) new
-  formed new result epoch members has is =
-      let so : FormsBy node epoch members has.steps = subst (λ (r : Result Regroup StepFault). RegroupsSo node r has.steps old) is has.shape in
-      happens_calm on start old outcomes awaited been (order.Regroup node) fit new has.steps (HasFormed epoch members) (has.of, has.made) (regroup_calm node has.steps has.of so.well) (members, so, has.begins, refl) refl tt
+  formed new result epoch members (steps, made) is =
+      let so : FormsBy node epoch members steps = subst (λ (r : Result Regroup StepFault). RegroupsSo node r steps old) is made.shape in
+      happens_calm on start old outcomes awaited been (order.Regroup node) fit new steps (HasFormed epoch members) (result, made) (regroup_calm node steps made.of so.well) (members, so, made.begins, refl) refl tt
       (λ n was. refl) (λ n among. absurd among)
 
   -- a node failed in it
   pub regroup_faulted : (new : World D) (result : Result Regroup StepFault) (failed : ℕ) → HasRegrouped on node result old new → result ≡ Ok (Fault failed)
       → Happened on start outcomes awaited been old (order.Regroup node) (HasFaulted failed) new
-  regroup_faulted new result failed has is =
-      let so : EndsBy (Ok (said.Faulted failed)) has.steps = subst (λ (r : Result Regroup StepFault). RegroupsSo node r has.steps old) is has.shape in
-      let of : AreOfRegroup node (so.front ++ so.one ∷ []) = subst (AreOfRegroup node) so.split has.of in
-      let made : MakesSteps on (so.front ++ so.one ∷ []) old new = subst (λ (s : List StepMade). MakesSteps on s old new) so.split has.made in
-      let ends = steps_last on so.front so.one old new made in
-      let calm = regroup_calm node so.front (regroup_front node so.front (so.one ∷ []) of) so.well in
+  regroup_faulted new result failed (steps, all) is =
+      let so : EndsBy (Ok (said.Faulted failed)) steps = subst (λ (r : Result Regroup StepFault). RegroupsSo node r steps old) is all.shape in
+      let made : MakesRegroup on node result (so.front ++ so.one ∷ []) old new = subst (λ (s : List StepMade). MakesRegroup on node result s old new) so.split all in
+      let ends = steps_last on so.front so.one old new made.made in
+      let calm = regroup_calm node so.front (regroup_front node so.front (so.one ∷ []) made.of) so.well in
       let falls : WasToWork (plan_of ends.mid).nodes so.one.step (life_of ends.mid failed) failed =
       subst (λ (r : Result Said StepFault). FallsSo r (plan_of ends.mid).nodes so.one.step (life_in (state_of ends.mid))) so.failed ends.last.did.falls in
       let may : MayFault (plan_of old) (life_after been) failed =
       may_fault on start old outcomes awaited been (order.Regroup node) fit so.one.step failed ends.mid (plan_kept on so.front old ends.mid ends.before) (calm_lives on so.front old ends.mid ends.before calm) falls
-      (starts_none node so.one failed (regroup_last node so.front so.one of)) in
-      faults_after on start old outcomes awaited been (order.Regroup node) fit new ends.mid so.front so.one failed ends.before calm ends.last (of, made) so.failed may
+      (starts_none node so.one failed (regroup_last node so.front so.one made.of)) in
+      faults_after on start old outcomes awaited been (order.Regroup node) fit new ends.mid so.front so.one failed ends.before calm ends.last (result, made) so.failed may
 
   -- a step of it was refused
-  denied_in : (new : World D) (steps : List StepMade) (why : StepFault) (stop : Stop) → AreOfRegroup node steps → MakesSteps on steps old new → EndsBy (Err why) steps → stop ≡ stop_by why
+  denied_in : (new : World D) (result : Result Regroup StepFault) (steps : List StepMade) (why : StepFault) (stop : Stop) → MakesRegroup on node result steps old new → EndsBy (Err why) steps → stop ≡ stop_by why
       → MovedSo on start outcomes awaited been old (order.Regroup node) (Err stop) new
-  denied_in new steps why stop of_all made_all so stops =
-      let of : AreOfRegroup node (so.front ++ so.one ∷ []) = subst (AreOfRegroup node) so.split of_all in
-      let made : MakesSteps on (so.front ++ so.one ∷ []) old new = subst (λ (s : List StepMade). MakesSteps on s old new) so.split made_all in
-      let ends = steps_last on so.front so.one old new made in
-      denied_after on start old outcomes awaited been (order.Regroup node) fit new ends.mid so.front so.one why stop ends.before (regroup_calm node so.front (regroup_front node so.front (so.one ∷ []) of) so.well) ends.last
-      (of, made) so.failed stops (λ always. always)
+  denied_in new result steps why stop all so stops =
+      let made : MakesRegroup on node result (so.front ++ so.one ∷ []) old new = subst (λ (s : List StepMade). MakesRegroup on node result s old new) so.split all in
+      let ends = steps_last on so.front so.one old new made.made in
+      denied_after on start old outcomes awaited been (order.Regroup node) fit new ends.mid so.front so.one why stop ends.before (regroup_calm node so.front (regroup_front node so.front (so.one ∷ []) made.of) so.well) ends.last
+      (result, made) so.failed stops (λ always. always)
 
   -- or there was no room for it
-  denied_first : (new : World D) (steps : List StepMade) (why : StepFault) (stop : Stop) → AreOfRegroup node steps → MakesSteps on steps old new → LacksRoom node why steps old → stop ≡ stop_by why
+  denied_first : (new : World D) (result : Result Regroup StepFault) (steps : List StepMade) (why : StepFault) (stop : Stop) → MakesRegroup on node result steps old new → LacksRoom node why steps old → stop ≡ stop_by why
       → MovedSo on start outcomes awaited been old (order.Regroup node) (Err stop) new
-  denied_first new steps why stop of made lacks stops = (
+  denied_first new result steps why stop made lacks stops = (
     (λ always. always),
     steps,
     record { why = why; denied = inr (lacks.none, lacks.is); stops = stops },
     (
       left_after_all steps awaited,
-      went_more on start outcomes awaited old fit.at (Moved (order.Regroup node) steps (sum_of (book_of old))) (left_after_all steps awaited) new ((of, made), refl, refl) tt,
+      went_more on start outcomes awaited old fit.at (moved_in old (order.Regroup node) steps) (left_after_all steps awaited) new ((result, made), refl, refl, refl) tt,
     ),
-    λ f bad n. ap (λ (w : World D). life_of w n) (subst (λ (s : List StepMade). MakesSteps on s old new) lacks.none made),
+    λ f bad n. ap (λ (w : World D). life_of w n) (subst (λ (s : List StepMade). MakesSteps on s old new) lacks.none made.made),
   )
 
   pub regroup_denied : (new : World D) (result : Result Regroup StepFault) (why : StepFault) (stop : Stop) → HasRegrouped on node result old new → result ≡ Err why → stop ≡ stop_by why
       → MovedSo on start outcomes awaited been old (order.Regroup node) (Err stop) new
-  regroup_denied new result why stop has is stops = ⊎_elim
-      (λ (ends : EndsBy (Err why) has.steps). denied_in new has.steps why stop has.of has.made ends stops)
-      (λ (lacks : LacksRoom node why has.steps old). denied_first new has.steps why stop has.of has.made lacks stops)
-      (subst (λ (r : Result Regroup StepFault). RegroupsSo node r has.steps old) is has.shape)
+  regroup_denied new result why stop (steps, made) is stops = ⊎_elim
+      (λ (ends : EndsBy (Err why) steps). denied_in new result steps why stop made ends stops)
+      (λ (lacks : LacksRoom node why steps old). denied_first new result steps why stop made lacks stops)
+      (subst (λ (r : Result Regroup StepFault). RegroupsSo node r steps old) is made.shape)
 
 -- what may be said of a group
 pub said_of_group : (node : ℕ) (result : Result Said StepFault) → IfOk result (SaysSo (step.Group node)) → IsSaidOfForming result

@@ -117,7 +117,7 @@ part_some missing cut part none = absurd (let never : part.entry ∷ part.more �
 
 module _ {D : Type 0} (on : View D) (start : World D) (plan : Plan) (p : Point) (order : Order) (line : List ℕ) (spelled : tape_order line ≡ Some order)
     (accepted : refusal plan p.been p.sessions order ≡ None) (first : Act) (said : List Entry) (turn : Turn) (sessions : List Session)
-    (starts : Starts plan p.been order p.sessions first turn) (acted : Acted plan p.sessions first said sessions) (firsts : List Outcome) (own : Led p.outcomes first firsts) (at_own : AreAtOwnNodes sessions firsts) where
+    (starts : Starts plan p.been order p.sessions first turn) (acted : Acted plan p.sessions first said sessions) (firsts : List Outcome) (own : Led plan p.been p.outcomes first firsts) (at_own : AreAtOwnNodes sessions firsts) where
   begins : (acts : List Act) (outputs : List (List Entry)) (next : Turn) (new : List Session) → turns.ActsGo plan turn sessions acts outputs next new
       → IsBegun plan p.been p.sessions line (first ∷ acts) (said ∷ outputs) next new
   begins acts outputs next new goes = record {
@@ -139,7 +139,7 @@ module _ {D : Type 0} (on : View D) (start : World D) (plan : Plan) (p : Point) 
 
   -- it stops before it was done
   stops_in : (reason : Why) (held : Option (List ℕ)) (world : World D) (stop : Stop) → IsStop reason stop → (acts : List Act) (outputs : List (List Entry)) (next : Turn) (new : List Session)
-      → turns.ActsGo plan turn sessions acts outputs next new → (came : List Outcome) (lacking : List Asked) (extra : List Made) → AreLedTo stop (p.outcomes ++ firsts) acts came lacking extra → AreAtOwnNodes new came → MayHaveAsked stop next new extra
+      → turns.ActsGo plan turn sessions acts outputs next new → (came : List Outcome) (lacking : List Asked) (extra : List Made) → AreLedTo stop plan (p.been ++ first ∷ []) (p.outcomes ++ firsts) acts came lacking extra → AreAtOwnNodes new came → MayHaveAsked stop next new extra
       → (front missing : List Entry) → LastCut (said ∷ outputs) front missing → MayLack stop missing lacking
       → (cut : List ℕ) → IsCutEntry missing cut → Appends p.held held (written_of front ++ cut) → IsSince on start (p.outcomes ++ (firsts ++ came)) world
       → ((stop ≡ OutOfMemory → ⊥) → AreLives plan (p.been ++ first ∷ acts) world) → HasCauses on start (failed_in (p.been ++ first ∷ acts)) world → LineStopped on start plan p line reason held world
@@ -168,8 +168,8 @@ module _ {D : Type 0} (on : View D) (start : World D) (plan : Plan) (p : Point) 
     new = firsts ++ came;
     why = is_why reason plan p line stop (firsts ++ came) is;
     lacking = lacking;
-    linked = subst (λ (by : List Act). AreLedTo stop p.outcomes by (firsts ++ came) lacking extra) (sym (append-nil (first ∷ acts)))
-        (to_more stop p.outcomes (first ∷ []) firsts acts came lacking extra (led_one p.outcomes first firsts own) linked);
+    linked = subst (λ (by : List Act). AreLedTo stop plan p.been p.outcomes by (firsts ++ came) lacking extra) (sym (append-nil (first ∷ acts)))
+        (to_more stop plan p.been p.outcomes (first ∷ []) firsts acts came lacking extra (led_one plan p.been p.outcomes first firsts own) linked);
     at_nodes = at_nodes_more sessions new (goes_stay plan turn next sessions new acts outputs goes) firsts came at_own at_nodes;
     since = since;
     lives = λ not. subst (λ (by : List Act). AreLives plan (p.been ++ by) world) (sym (append-nil (first ∷ acts))) (lives not);
@@ -206,7 +206,7 @@ module _ {D : Type 0} (on : View D) (start : World D) (plan : Plan) (p : Point) 
       → (cut : List ℕ) → IsCutEntry missing cut → Appends p.held held (written_of front ++ cut) → IsSince on start (p.outcomes ++ firsts) world
       → ((stop ≡ OutOfMemory → ⊥) → AreLives plan (p.been ++ first ∷ []) world) → HasCauses on start (failed_in (p.been ++ first ∷ [])) world → LineStopped on start plan p line reason held world
   stops_own reason held world stop is front missing parts may cut is_cut gave since lives causes =
-      stops_in reason held world stop is [] [] turn sessions (refl, refl) [] [] [] (to_none stop (p.outcomes ++ firsts)) tt (nothing_asked stop turn sessions) front missing
+      stops_in reason held world stop is [] [] turn sessions (refl, refl) [] [] [] (to_none stop plan (p.been ++ first ∷ []) (p.outcomes ++ firsts)) tt (nothing_asked stop turn sessions) front missing
       (record { before = []; says = said; are = refl; kept = front; cut = parts; written = refl }) may cut is_cut gave
       (subst (λ (os : List Outcome). IsSince on start (p.outcomes ++ os) world) (sym (append-nil firsts)) since) lives causes
 
@@ -250,7 +250,9 @@ module _ {D : Type 0} (on : View D) (start : World D) (plan : Plan) (p q : Point
       begun = begins on start plan p order line spelled s.accepted s.first s.said q.turn q.sessions s.starts s.acted s.outcomes s.linked s.at_nodes w.work.acts w.work.outputs w.q.turn w.q.sessions w.work.goes;
       done = w.so_is;
     };
-    linked = led_more p.outcomes (s.first ∷ []) s.outcomes w.work.acts w.work.outcomes (led_one p.outcomes s.first s.outcomes s.linked) (subst (λ (os : List Outcome). AreLed os w.work.acts w.work.outcomes) s.came w.work.linked);
+    linked = led_more plan p.been p.outcomes (s.first ∷ []) s.outcomes w.work.acts w.work.outcomes (led_one plan p.been p.outcomes s.first s.outcomes s.linked)
+        (subst (λ (os : List Outcome). AreLed plan (p.been ++ s.first ∷ []) os w.work.acts w.work.outcomes) s.came
+        (subst (λ (d : List Act). AreLed plan d q.outcomes w.work.acts w.work.outcomes) s.been w.work.linked));
     at_nodes = at_nodes_more q.sessions w.q.sessions (goes_stay plan q.turn w.q.turn q.sessions w.q.sessions w.work.acts w.work.outputs w.work.goes) s.outcomes w.work.outcomes s.at_nodes w.work.at_nodes;
     came = w.work.came ∙ ap (λ (l : List Outcome). l ++ w.work.outcomes) s.came ∙ append_assoc p.outcomes s.outcomes w.work.outcomes;
     been = w.work.been ∙ ap (λ (l : List Act). l ++ w.work.acts) s.been ∙ append_assoc p.been (s.first ∷ []) w.work.acts;
@@ -264,7 +266,8 @@ module _ {D : Type 0} (on : View D) (start : World D) (plan : Plan) (p q : Point
   halted reason world stopped =
       let c = stopped.cut in
       stops_in on start plan p order line spelled s.accepted s.first s.said q.turn q.sessions s.starts s.acted s.outcomes s.linked s.at_nodes reason held world stopped.stop stopped.is
-      c.acts c.outputs c.turn c.sessions c.goes c.new c.lacking c.extra (subst (λ (os : List Outcome). AreLedTo stopped.stop os c.acts c.new c.lacking c.extra) s.came c.linked) c.at_nodes c.asked (s.said ++ c.front) c.missing (last_cut s.said c.outputs c.front c.missing c.parts c.tail) c.may c.cut c.is_cut
+      c.acts c.outputs c.turn c.sessions c.goes c.new c.lacking c.extra (subst (λ (os : List Outcome). AreLedTo stopped.stop plan (p.been ++ s.first ∷ []) os c.acts c.new c.lacking c.extra) s.came
+      (subst (λ (d : List Act). AreLedTo stopped.stop plan d q.outcomes c.acts c.new c.lacking c.extra) s.been c.linked)) c.at_nodes c.asked (s.said ++ c.front) c.missing (last_cut s.said c.outputs c.front c.missing c.parts c.tail) c.may c.cut c.is_cut
       (subst (Appends p.held held) (sym (append_assoc (written_of s.said) (written_of c.front) c.cut) ∙ ap (λ (l : List ℕ). l ++ c.cut) (sym (written_more s.said c.front))) (appends_more _ _ _ _ _ s.gave c.gave))
       (subst (λ (os : List Outcome). IsSince on start os world) (c.came ∙ ap (λ (l : List Outcome). l ++ c.new) s.came ∙ append_assoc p.outcomes s.outcomes c.new) stopped.since)
       (λ not. subst (λ (been : List Act). AreLives plan been world) (ap (λ (l : List Act). l ++ c.acts) s.been ∙ append_assoc p.been (s.first ∷ []) c.acts) (stopped.lives not))

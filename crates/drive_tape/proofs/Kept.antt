@@ -35,11 +35,13 @@ use Rattle.session_model.proofs.Kept.{owed_is_kept}
 use Rattle.cluster_owes.specs.Held.{filed_on}
 use Rattle.cluster_owes.specs.Outcomes.{IsTakenAt}
 use Rattle.node_store.specs.Disks.{View}
-use Rattle.cluster_world.specs.Wholes.{IsWhole, HasOneMap}
+use Rattle.cluster_world.specs.Sound.{IsWhole}
+use Rattle.cluster_world.specs.Wholes.{HasOneMap}
 use Rattle.cluster_world.specs.Worlds.{state_of, plan_of, disks_of, book_of, disks_tell}
 use Rattle.cluster_world.specs.Opens.{IsAtBeginning}
 use Rattle.cluster_world.specs.Owing.{AreBlind, IsOfBlind, AllBlind, AreKnown, AreOfSessions, WorldOwes}
-use Rattle.cluster_world.specs.Outcomes.{Outcome, Awaited, StepMade, Came, Makes, IsPost, IsOfRegroup, AreOfRegroup, made_of, asked_by_outcome, answered_by_outcome}
+use Rattle.cluster_world.specs.Made.{StepMade, IsPost, IsOfRegroup, AreOfRegroup}
+use Rattle.cluster_world.specs.Outcomes.{Outcome, Awaited, Came, Makes, made_of, asked_by_outcome, answered_by_outcome}
 use Rattle.cluster_world.proofs.Ordered.{AreStepsOf, IsPushOf, order_are}
 use Rattle.cluster_world.specs.Outcomes.Outcome.{Began, Refused, Fell, Broke, Answers, StillPending, Unanswered, GaveUp, Abandoned, KeptUp, Left, Moved}
 use Rattle.cluster_world.specs.declared.world.World.{World}
@@ -50,10 +52,12 @@ use Rattle.cluster_model.specs.Progress.Ask.{Pending}
 use Rattle.cluster_world.proofs.Lasting.{pending_has_letter}
 use Rattle.cluster_world.proofs.Owed.{none_pending}
 use Rattle.cluster_world.proofs.Wholes.{world_is_whole, one_map_per_epoch}
-use Rattle.drive_tape.specs.Drive.{HasLetters}
+use Rattle.drive_tape.specs.Drive.{HasLetters, NamesTheUp}
 use Rattle.drive_tape.specs.Kept.{IsBlindOrder, AreBlindLines, AreToldOrBlind, KeptIn}
+use Rattle.drive_tape.specs.Led.{AreLedTo}
 use Rattle.drive_tape.specs.Points.{IsAtOwnNode, AreAtOwnNodes}
 use Rattle.drive_tape.proofs.Led.{MayLackOne}
+use Rattle.drive_tape.proofs.NamedUp.{names_the_up}
 use Rattle.drive_tape.proofs.Clocks.{ticked_by}
 use Rattle.drive_tape.proofs.LineActs.{begun_is_asked, moved_by_line}
 use Rattle.drive_tape.proofs.OpenedKinds.{driven_kinds}
@@ -116,7 +120,7 @@ all_blind on nodes [] awaited left old new makes blind = tt
 all_blind {D} on nodes (outcome ∷ more) awaited left old new (between, mid, came, makes) blind = (one outcome came (λ asked is. blind asked (inl is)), all_blind on nodes more between left mid new makes (λ asked among. blind asked (inr among)))
   where
     one : (outcome : Outcome) → Came on outcome awaited old between mid → ((asked : ClusterOrder) → made_of outcome ≡ Made.Moves asked → IsBlindOrder nodes (Some (tape.Order.Moves asked))) → IsOfBlind nodes outcome
-    one (Moved asked steps sum) (made, summed, waits) may = order_blind nodes asked steps (order_are on asked steps old mid made) (may asked refl)
+    one (Moved asked steps sum up) (made, summed, waits, were) may = order_blind nodes asked steps (order_are on asked steps old mid made) (may asked refl)
     one (Began k node asked ticket) came may = tt
     one (Refused k node asked) came may = tt
     one (Fell k node asked) came may = tt
@@ -217,10 +221,10 @@ module _ {D : Type 0} (on : View D) (start last : World D) (begins : IsAtBeginni
   of_sessions (Abandoned k asked ticket) among = tt
   of_sessions (KeptUp k ticket why) among = tt
   of_sessions (Left k node user) among = tt
-  of_sessions (Moved (order.Tick seconds) made_steps sum) among =
+  of_sessions (Moved (order.Tick seconds) made_steps sum up) among =
       let found = moved_by_line plan stop handled midst acts behind made entries sessions driven (order.Tick seconds) (made_in _ among) in
       inr (ticked_by lines found.0 seconds found.1 found.2)
-  of_sessions (Moved asked made_steps sum) among = tt
+  of_sessions (Moved asked made_steps sum up) among = tt
 
   -- the disks tell what they hold, or no step needs it
   pub known : AreToldOrBlind on start lines → AreKnown on start outcomes
@@ -258,3 +262,7 @@ module _ {D : Type 0} (on : View D) (start last : World D) (begins : IsAtBeginni
 
   pub one_map_in : AreToldOrBlind on start lines → HasOneMap (state_of last)
   one_map_in told = one_map_per_epoch on plan lines outcomes awaited start last (record { begins = begins; known = known told; makes = steps; sessions = of_sessions })
+
+  -- the members that a regroup names are the nodes that were up
+  pub names_in : (lacking : List Asked) (extra : List Made) → AreLedTo stop plan [] [] done outcomes lacking extra → AreToldOrBlind on start lines → NamesTheUp plan done
+  names_in lacking extra led told = names_the_up on plan lines outcomes awaited start last begins (known told) steps of_sessions stop done lacking extra led

@@ -5,6 +5,7 @@ use Rattle.std.proofs.lemmas.Grind.{flat_map-append}
 use Rattle.object_model.specs.Letters.{Number}
 use Rattle.object_model.specs.Lists.{Among}
 use Rattle.object_model.proofs.Lists.{among_front, among_behind}
+use Rattle.mail_model.specs.Plan.{Plan}
 use Rattle.session_model.specs.Calls.{Call}
 use Rattle.session_model.specs.Talk.{Exchange}
 use Rattle.session_model.specs.Acts.{Act}
@@ -18,26 +19,29 @@ use Rattle.cluster_world.specs.Outcomes.Outcome.{Began, Refused, Fell, Broke, St
 use Rattle.drive_tape.specs.Led.{Led, AreLed, AreLedTo, Begins, EndsWith, IsUntold, CameToNothing}
 
 -- one act
-pub led_one : (before : List Outcome) (act : Act) (own : List Outcome) → Led before act own → AreLed before (act ∷ []) own
-led_one before act own led = (own, [], sym (append-nil own), led, refl)
+pub led_one : (plan : Plan) (been : List Act) (before : List Outcome) (act : Act) (own : List Outcome) → Led plan been before act own → AreLed plan been before (act ∷ []) own
+led_one plan been before act own led = (own, [], sym (append-nil own), led, refl)
 
 -- acts, and more of them
-pub led_more : (before : List Outcome) (acts : List Act) (outcomes : List Outcome) (others : List Act) (news : List Outcome) → AreLed before acts outcomes → AreLed (before ++ outcomes) others news
-    → AreLed before (acts ++ others) (outcomes ++ news)
-led_more before [] outcomes others news none two =
-    subst (λ (os : List Outcome). AreLed before others (os ++ news)) (sym none)
-    (subst (λ (os : List Outcome). AreLed os others news) (ap (λ (l : List Outcome). before ++ l) none ∙ append-nil before) two)
-led_more before (act ∷ acts) outcomes others news (own, rest, are, led, more) two = (
+pub led_more : (plan : Plan) (been : List Act) (before : List Outcome) (acts : List Act) (outcomes : List Outcome) (others : List Act) (news : List Outcome) → AreLed plan been before acts outcomes
+    → AreLed plan (been ++ acts) (before ++ outcomes) others news → AreLed plan been before (acts ++ others) (outcomes ++ news)
+led_more plan been before [] outcomes others news none two =
+    subst (λ (os : List Outcome). AreLed plan been before others (os ++ news)) (sym none)
+    (subst (λ (os : List Outcome). AreLed plan been os others news) (ap (λ (l : List Outcome). before ++ l) none ∙ append-nil before)
+    (subst (λ (d : List Act). AreLed plan d (before ++ outcomes) others news) (append-nil been) two))
+led_more plan been before (act ∷ acts) outcomes others news (own, rest, are, led, more) two = (
   own,
   rest ++ news,
   ap (λ (l : List Outcome). l ++ news) are ∙ append_assoc own rest news,
   led,
-  led_more (before ++ own) acts rest others news more (subst (λ (os : List Outcome). AreLed os others news) (ap (λ (l : List Outcome). before ++ l) are ∙ sym (append_assoc before own rest)) two),
+  led_more plan (been ++ act ∷ []) (before ++ own) acts rest others news more
+      (subst (λ (os : List Outcome). AreLed plan ((been ++ act ∷ []) ++ acts) os others news) (ap (λ (l : List Outcome). before ++ l) are ∙ sym (append_assoc before own rest))
+      (subst (λ (d : List Act). AreLed plan d (before ++ outcomes) others news) (sym (append_assoc been (act ∷ []) acts)) two)),
 )
 
 -- all that was done is told of
-pub to_whole : (stop : Stop) (before : List Outcome) (acts : List Act) (outcomes : List Outcome) → AreLed before acts outcomes → AreLedTo stop before acts outcomes [] []
-to_whole stop before acts outcomes led = record {
+pub to_whole : (stop : Stop) (plan : Plan) (been : List Act) (before : List Outcome) (acts : List Act) (outcomes : List Outcome) → AreLed plan been before acts outcomes → AreLedTo stop plan been before acts outcomes [] []
+to_whole stop plan been before acts outcomes led = record {
   done = acts;
   last = [];
   acts_are = sym (append-nil acts);
@@ -48,17 +52,17 @@ to_whole stop before acts outcomes led = record {
   ends = (refl, refl);
 }
 
-pub to_none : (stop : Stop) (before : List Outcome) → AreLedTo stop before [] [] [] []
-to_none stop before = to_whole stop before [] [] refl
+pub to_none : (stop : Stop) (plan : Plan) (been : List Act) (before : List Outcome) → AreLedTo stop plan been before [] [] [] []
+to_none stop plan been before = to_whole stop plan been before [] [] refl
 
 -- a step more was made, of which no act tells
-pub to_untold : (stop : Stop) (before : List Outcome) (outcome : Outcome) → IsUntold outcome → AreLedTo stop before [] (outcome ∷ []) [] (made_of outcome ∷ [])
-to_untold stop before outcome untold = record { done = []; last = []; acts_are = refl; own = []; rest = outcome ∷ []; outcomes_are = refl; led = refl; ends = (untold, refl, refl) }
+pub to_untold : (stop : Stop) (plan : Plan) (been : List Act) (before : List Outcome) (outcome : Outcome) → IsUntold outcome → AreLedTo stop plan been before [] (outcome ∷ []) [] (made_of outcome ∷ [])
+to_untold stop plan been before outcome untold = record { done = []; last = []; acts_are = refl; own = []; rest = outcome ∷ []; outcomes_are = refl; led = refl; ends = (untold, refl, refl) }
 
 -- nothing came of the last call
-pub to_nothing : (before : List Outcome) (k : ℕ) (one : Exchange) (asked : Call) (outcome : Outcome) (lacking : List Asked) → one.call ≡ Some asked → CameToNothing k asked outcome lacking
-    → AreLedTo OutOfMemory before (Does k (Hears one) ∷ []) (outcome ∷ []) lacking []
-to_nothing before k one asked outcome lacking asks nothing = record {
+pub to_nothing : (plan : Plan) (been : List Act) (before : List Outcome) (k : ℕ) (one : Exchange) (asked : Call) (outcome : Outcome) (lacking : List Asked) → one.call ≡ Some asked → CameToNothing k asked outcome lacking
+    → AreLedTo OutOfMemory plan been before (Does k (Hears one) ∷ []) (outcome ∷ []) lacking []
+to_nothing plan been before k one asked outcome lacking asks nothing = record {
   done = [];
   last = Does k (Hears one) ∷ [];
   acts_are = refl;
@@ -69,16 +73,16 @@ to_nothing before k one asked outcome lacking asks nothing = record {
   ends = (asked, asks, nothing, refl, refl);
 }
 
-pub to_more : (stop : Stop) (before : List Outcome) (acts : List Act) (outcomes : List Outcome) (others : List Act) (news : List Outcome) (lacking : List Asked) (extra : List Made) → AreLed before acts outcomes
-    → AreLedTo stop (before ++ outcomes) others news lacking extra → AreLedTo stop before (acts ++ others) (outcomes ++ news) lacking extra
-to_more stop before acts outcomes others news lacking extra one two = record {
+pub to_more : (stop : Stop) (plan : Plan) (been : List Act) (before : List Outcome) (acts : List Act) (outcomes : List Outcome) (others : List Act) (news : List Outcome) (lacking : List Asked) (extra : List Made)
+    → AreLed plan been before acts outcomes → AreLedTo stop plan (been ++ acts) (before ++ outcomes) others news lacking extra → AreLedTo stop plan been before (acts ++ others) (outcomes ++ news) lacking extra
+to_more stop plan been before acts outcomes others news lacking extra one two = record {
   done = acts ++ two.done;
   last = two.last;
   acts_are = ap (λ (l : List Act). acts ++ l) two.acts_are ∙ sym (append_assoc acts two.done two.last);
   own = outcomes ++ two.own;
   rest = two.rest;
   outcomes_are = ap (λ (l : List Outcome). outcomes ++ l) two.outcomes_are ∙ sym (append_assoc outcomes two.own two.rest);
-  led = led_more before acts outcomes two.done two.own one two.led;
+  led = led_more plan been before acts outcomes two.done two.own one two.led;
   ends = two.ends;
 }
 
@@ -110,24 +114,24 @@ hears_linked k one (Some asked) own is led = by (subst (λ (c : Option Call). Be
     by (node, inl (ticket, are)) = subst (λ (os : List Outcome). AreLinked (Does k (Hears one) ∷ []) os [] []) (sym are) (record { made = rw is refl; asked = rw is refl; answered = refl })
     by (node, inr are) = subst (λ (os : List Outcome). AreLinked (Does k (Hears one) ∷ []) os [] []) (sym are) (record { made = rw is refl; asked = rw is refl; answered = refl })
 
-one_linked : (before : List Outcome) (act : Act) (own : List Outcome) → Led before act own → AreLinked (act ∷ []) own [] []
-one_linked before (Does k (Hears one)) own led = hears_linked k one one.call own refl led
-one_linked before (Opens protocol node greeting) own led = subst (λ (os : List Outcome). AreLinked (Opens protocol node greeting ∷ []) os [] []) (sym led) (record { made = refl; asked = refl; answered = refl })
-one_linked before (Does k (IsAnswered call answer reply)) own led = subst (λ (os : List Outcome). AreLinked (Does k (IsAnswered call answer reply) ∷ []) os [] []) (sym led.1) (record { made = refl; asked = refl; answered = refl })
-one_linked before (Does k (IsGivenUp call reply)) own led = subst (λ (os : List Outcome). AreLinked (Does k (IsGivenUp call reply) ∷ []) os [] []) (sym led.1) (record { made = refl; asked = refl; answered = refl })
-one_linked before (Does k (IsFed octets)) own led = subst (λ (os : List Outcome). AreLinked (Does k (IsFed octets) ∷ []) os [] []) (sym led) (record { made = refl; asked = refl; answered = refl })
-one_linked before (Does k Falls) own led = subst (λ (os : List Outcome). AreLinked (Does k Falls ∷ []) os [] []) (sym led) (record { made = refl; asked = refl; answered = refl })
-one_linked before (Does k Closes) own led = subst (λ (os : List Outcome). AreLinked (Does k Closes ∷ []) os [] []) (sym led) (record { made = refl; asked = refl; answered = refl })
-one_linked before (Faults node) own led = subst (λ (os : List Outcome). AreLinked (Faults node ∷ []) os [] []) (sym led.0) (record { made = refl; asked = refl; answered = refl })
-one_linked before (StillWaits k) own led = subst (λ (os : List Outcome). AreLinked (StillWaits k ∷ []) os [] []) (sym led.1) (record { made = refl; asked = refl; answered = refl })
-one_linked before (Leaves k user) own led = subst (λ (os : List Outcome). AreLinked (Leaves k user ∷ []) os [] []) (sym led.1) (record { made = refl; asked = refl; answered = refl })
-one_linked before (Makes asked event) own led = subst (λ (os : List Outcome). AreLinked (Makes asked event ∷ []) os [] []) (sym led.2) (record { made = refl; asked = refl; answered = refl })
-one_linked before (Abandons k) own led = subst (λ (os : List Outcome). AreLinked (Abandons k ∷ []) os [] []) (sym led.2) (record { made = refl; asked = refl; answered = refl })
+one_linked : (plan : Plan) (been : List Act) (before : List Outcome) (act : Act) (own : List Outcome) → Led plan been before act own → AreLinked (act ∷ []) own [] []
+one_linked plan been before (Does k (Hears one)) own led = hears_linked k one one.call own refl led
+one_linked plan been before (Opens protocol node greeting) own led = subst (λ (os : List Outcome). AreLinked (Opens protocol node greeting ∷ []) os [] []) (sym led) (record { made = refl; asked = refl; answered = refl })
+one_linked plan been before (Does k (IsAnswered call answer reply)) own led = subst (λ (os : List Outcome). AreLinked (Does k (IsAnswered call answer reply) ∷ []) os [] []) (sym led.1) (record { made = refl; asked = refl; answered = refl })
+one_linked plan been before (Does k (IsGivenUp call reply)) own led = subst (λ (os : List Outcome). AreLinked (Does k (IsGivenUp call reply) ∷ []) os [] []) (sym led.1) (record { made = refl; asked = refl; answered = refl })
+one_linked plan been before (Does k (IsFed octets)) own led = subst (λ (os : List Outcome). AreLinked (Does k (IsFed octets) ∷ []) os [] []) (sym led) (record { made = refl; asked = refl; answered = refl })
+one_linked plan been before (Does k Falls) own led = subst (λ (os : List Outcome). AreLinked (Does k Falls ∷ []) os [] []) (sym led) (record { made = refl; asked = refl; answered = refl })
+one_linked plan been before (Does k Closes) own led = subst (λ (os : List Outcome). AreLinked (Does k Closes ∷ []) os [] []) (sym led) (record { made = refl; asked = refl; answered = refl })
+one_linked plan been before (Faults node) own led = subst (λ (os : List Outcome). AreLinked (Faults node ∷ []) os [] []) (sym led.0) (record { made = refl; asked = refl; answered = refl })
+one_linked plan been before (StillWaits k) own led = subst (λ (os : List Outcome). AreLinked (StillWaits k ∷ []) os [] []) (sym led.1) (record { made = refl; asked = refl; answered = refl })
+one_linked plan been before (Leaves k user) own led = subst (λ (os : List Outcome). AreLinked (Leaves k user ∷ []) os [] []) (sym led.1) (record { made = refl; asked = refl; answered = refl })
+one_linked plan been before (Makes asked event) own led = subst (λ (os : List Outcome). AreLinked (Makes asked event ∷ []) os [] []) (sym led.2) (record { made = refl; asked = refl; answered = refl })
+one_linked plan been before (Abandons k) own led = subst (λ (os : List Outcome). AreLinked (Abandons k ∷ []) os [] []) (sym led.2) (record { made = refl; asked = refl; answered = refl })
 
-pub led_linked : (before : List Outcome) (acts : List Act) (outcomes : List Outcome) → AreLed before acts outcomes → AreLinked acts outcomes [] []
-led_linked before [] outcomes none = subst (λ (os : List Outcome). AreLinked [] os [] []) (sym none) (record { made = refl; asked = refl; answered = refl })
-led_linked before (act ∷ acts) outcomes (own, others, are, led, more) =
-    subst (λ (os : List Outcome). AreLinked (act ∷ acts) os [] []) (sym are) (linked_more (act ∷ []) acts own others [] [] (one_linked before act own led) (led_linked (before ++ own) acts others more))
+pub led_linked : (plan : Plan) (been : List Act) (before : List Outcome) (acts : List Act) (outcomes : List Outcome) → AreLed plan been before acts outcomes → AreLinked acts outcomes [] []
+led_linked plan been before [] outcomes none = subst (λ (os : List Outcome). AreLinked [] os [] []) (sym none) (record { made = refl; asked = refl; answered = refl })
+led_linked plan been before (act ∷ acts) outcomes (own, others, are, led, more) =
+    subst (λ (os : List Outcome). AreLinked (act ∷ acts) os [] []) (sym are) (linked_more (act ∷ []) acts own others [] [] (one_linked plan been before act own led) (led_linked plan (been ++ act ∷ []) (before ++ own) acts others more))
 
 -- at most one call is lacking, and only as memory ran out
 abbrev pub MayLackOne : Stop → List Asked → Type 0
@@ -143,7 +147,7 @@ lacks_none OutOfMemory lacking none = inl none
 untold_linked : (outcome : Outcome) → IsUntold outcome → AreLinked [] (outcome ∷ []) [] (made_of outcome ∷ [])
 untold_linked (Unanswered k asked ticket) untold = record { made = refl; asked = refl; answered = refl }
 untold_linked (KeptUp k ticket why) untold = record { made = refl; asked = refl; answered = refl }
-untold_linked (Moved asked steps sum) untold = record { made = refl; asked = refl; answered = refl }
+untold_linked (Moved asked steps sum up) untold = record { made = refl; asked = refl; answered = refl }
 untold_linked outcome untold = absurd untold
 
 nothing_linked : (k : ℕ) (one : Exchange) (asked : Call) (outcome : Outcome) (lacking : List Asked) → one.call ≡ Some asked → CameToNothing k asked outcome lacking
@@ -170,25 +174,25 @@ ends_linked (Does k (Hears one) ∷ []) (outcome ∷ []) stop lacking extra (ask
     (subst (λ (m : List Made). AreLinked (Does k (Hears one) ∷ []) (outcome ∷ []) lacking m) (sym none) both.0, subst (λ (s : Stop). MayLackOne s lacking) (sym ran_out) both.1)
 ends_linked last rest stop lacking extra ends = absurd ends
 
-pub to_linked : (stop : Stop) (before : List Outcome) (acts : List Act) (outcomes : List Outcome) (lacking : List Asked) (extra : List Made) → AreLedTo stop before acts outcomes lacking extra
+pub to_linked : (stop : Stop) (plan : Plan) (been : List Act) (before : List Outcome) (acts : List Act) (outcomes : List Outcome) (lacking : List Asked) (extra : List Made) → AreLedTo stop plan been before acts outcomes lacking extra
     → AreLinked acts outcomes lacking extra × MayLackOne stop lacking
-to_linked stop before acts outcomes lacking extra to =
+to_linked stop plan been before acts outcomes lacking extra to =
     let ends = ends_linked to.last to.rest stop lacking extra to.ends in (
       subst (λ (l : List Act). AreLinked l outcomes lacking extra) (sym to.acts_are) (subst (λ (os : List Outcome). AreLinked (to.done ++ to.last) os lacking extra) (sym to.outcomes_are)
-          (linked_more to.done to.last to.own to.rest lacking extra (led_linked before to.done to.own to.led) ends.0)),
+          (linked_more to.done to.last to.own to.rest lacking extra (led_linked plan been before to.done to.own to.led) ends.0)),
       ends.1,
     )
 
 -- a session that still waits has a ticket that is pending
 
-led_waits : (k : ℕ) (before : List Outcome) (acts : List Act) (outcomes : List Outcome) → AreLed before acts outcomes → Among (StillWaits k) acts → (ticket : Number) × Among (StillPending k ticket) outcomes
-led_waits k before [] outcomes led among = absurd among
-led_waits k before (act ∷ acts) outcomes (own, others, are, led, more) among = ⊎_elim
+led_waits : (k : ℕ) (plan : Plan) (been : List Act) (before : List Outcome) (acts : List Act) (outcomes : List Outcome) → AreLed plan been before acts outcomes → Among (StillWaits k) acts → (ticket : Number) × Among (StillPending k ticket) outcomes
+led_waits k plan been before [] outcomes led among = absurd among
+led_waits k plan been before (act ∷ acts) outcomes (own, others, are, led, more) among = ⊎_elim
     (λ (same : act ≡ StillWaits k).
-    let is : (ticket : Number) × (own ≡ StillPending k ticket ∷ []) = subst (λ (a : Act). Led before a own) same led in
+    let is : (ticket : Number) × (own ≡ StillPending k ticket ∷ []) = subst (λ (a : Act). Led plan been before a own) same led in
     (is.0, subst (Among (StillPending k is.0)) (sym are) (among_front (StillPending k is.0) own others (subst (Among (StillPending k is.0)) (sym is.1) (inl refl)))))
     (λ (rest : Among (StillWaits k) acts).
-    let found = led_waits k (before ++ own) acts others more rest in (found.0, subst (Among (StillPending k found.0)) (sym are) (among_behind (StillPending k found.0) own others found.1))) among
+    let found = led_waits k plan (been ++ act ∷ []) (before ++ own) acts others more rest in (found.0, subst (Among (StillPending k found.0)) (sym are) (among_behind (StillPending k found.0) own others found.1))) among
 
 ends_quiet : (k : ℕ) (last : List Act) (rest : List Outcome) (stop : Stop) (lacking : List Asked) (extra : List Made) → EndsWith last rest stop lacking extra → Among (StillWaits k) last → ⊥
 ends_quiet k [] rest stop lacking extra ends among = among
@@ -199,9 +203,9 @@ among_apart : {X : Type 0} (x : X) (xs ys : List X) → Among x (xs ++ ys) → A
 among_apart x [] ys among = inr among
 among_apart x (y ∷ xs) ys among = ⊎_elim (λ (same : y ≡ x). inl (inl same)) (λ (rest : Among x (xs ++ ys)). ⊎_elim (λ (l : Among x xs). inl (inr l)) (λ (r : Among x ys). inr r) (among_apart x xs ys rest)) among
 
-pub to_waits : (k : ℕ) (stop : Stop) (before : List Outcome) (acts : List Act) (outcomes : List Outcome) (lacking : List Asked) (extra : List Made) → AreLedTo stop before acts outcomes lacking extra → Among (StillWaits k) acts
+pub to_waits : (k : ℕ) (stop : Stop) (plan : Plan) (been : List Act) (before : List Outcome) (acts : List Act) (outcomes : List Outcome) (lacking : List Asked) (extra : List Made) → AreLedTo stop plan been before acts outcomes lacking extra → Among (StillWaits k) acts
     → (ticket : Number) × Among (StillPending k ticket) outcomes
-to_waits k stop before acts outcomes lacking extra to among = ⊎_elim
+to_waits k stop plan been before acts outcomes lacking extra to among = ⊎_elim
     (λ (front : Among (StillWaits k) to.done).
-    let found = led_waits k before to.done to.own to.led front in (found.0, subst (Among (StillPending k found.0)) (sym to.outcomes_are) (among_front (StillPending k found.0) to.own to.rest found.1)))
+    let found = led_waits k plan been before to.done to.own to.led front in (found.0, subst (Among (StillPending k found.0)) (sym to.outcomes_are) (among_front (StillPending k found.0) to.own to.rest found.1)))
     (λ (back : Among (StillWaits k) to.last). absurd (ends_quiet k to.last to.rest stop lacking extra to.ends back)) (among_apart (StillWaits k) to.done to.last (subst (Among (StillWaits k)) to.acts_are among))

@@ -39,4 +39,6 @@ pub mod FedMoves
 pub mod Sure
 pub mod WholeTexts
 pub mod Forming
+pub mod NodesUp
+pub mod NamedUp
 pub mod EpochTexts

@@ -86,7 +86,7 @@ own_stays old new stay (GaveUp k asked ticket) own = tt
 own_stays old new stay (Abandoned k asked ticket) own = tt
 own_stays old new stay (KeptUp k ticket why) own = tt
 own_stays old new stay (Left k node user) own = stay k node own
-own_stays old new stay (Moved order steps sum) own = tt
+own_stays old new stay (Moved order steps sum up) own = tt
 
 -- and of more of them
 pub at_nodes_more : (old new : List Session) → NodesStay old new → (outcomes more : List Outcome) → AreAtOwnNodes old outcomes → AreAtOwnNodes new more → AreAtOwnNodes new (outcomes ++ more)

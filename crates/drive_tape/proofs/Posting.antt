@@ -24,7 +24,8 @@ use Rattle.cluster_world.specs.Worlds.{state_of, plan_of, life_of, life_in, book
 use Rattle.cluster_world.specs.Steps.{IsStep, SaysSo, FallsSo, WasToWork}
 use Rattle.cluster_world.specs.Turns.{life_after_step}
 use Rattle.cluster_world.specs.Flows.{IsDelivered, AllDelivered, FlowsSo, HasFlowed}
-use Rattle.cluster_world.specs.Outcomes.{Outcome, Awaited, StepMade, MakesSteps, MakesOrder, PostsAll, PushesTo, PushesAll, IsPost, has_failed, nodes_but, fallen_in}
+use Rattle.cluster_world.specs.Made.{StepMade, MakesSteps, PostsAll, PushesTo, PushesAll, IsPost, has_failed, nodes_but}
+use Rattle.cluster_world.specs.Outcomes.{Outcome, Awaited, MakesOrder, fallen_in}
 use Rattle.cluster_world.proofs.Ordered.{posts_make}
 use Rattle.node_core.specs.declared.outbox.Why.{Why}
 use Rattle.cluster_world.specs.declared.world.World.{World}

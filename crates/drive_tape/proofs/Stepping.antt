@@ -17,9 +17,9 @@ use Rattle.node_store.specs.Disks.{View}
 use Rattle.cluster_world.specs.Worlds.{state_of, plan_of, life_of, book_of}
 use Rattle.cluster_world.specs.Steps.{StepDid, IsStep, WasToWork}
 use Rattle.cluster_world.specs.Turns.{life_after_step}
-use Rattle.cluster_world.specs.Outcomes.{Outcome, Awaited, StepMade, MakesSteps, MakesOrder, fallen_in, left_after, left_after_all}
+use Rattle.cluster_world.specs.Made.{StepMade, MakesSteps}
+use Rattle.cluster_world.specs.Outcomes.{Outcome, Awaited, MakesOrder, moved_in, fallen_in, left_after, left_after_all}
 use Rattle.cluster_world.proofs.Ordered.{order_makes, order_are}
-use Rattle.cluster_world.specs.Outcomes.Outcome.{Moved}
 use Rattle.cluster_world.specs.declared.world.World.{World}
 use Rattle.cluster_world.specs.declared.step.Step.{Step}
 use Rattle.cluster_world.specs.declared.step.Step.TheVariants as step
@@ -118,8 +118,8 @@ module _ {D : Type 0} (on : View D) where
         → Happened on start outcomes awaited been old order event new
     happens_calm new steps event makes calm tells falls is lives none = record {
       steps = steps;
-      at = subst (λ (a : List Awaited). WentTo on start old (outcomes ++ Moved order steps (sum_of (book_of old)) ∷ []) a new) left
-          (went_more on start outcomes awaited old fit.at (Moved order steps (sum_of (book_of old))) (left_after_all steps awaited) new (makes, refl, refl) tt);
+      at = subst (λ (a : List Awaited). WentTo on start old (outcomes ++ moved_in old order steps ∷ []) a new) left
+          (went_more on start outcomes awaited old fit.at (moved_in old order steps) (left_after_all steps awaited) new (makes, refl, refl, refl) tt);
       is = is;
       tells = tells;
       lives = λ n there. calm_lives steps old new (order_makes on order steps old new makes) calm n ∙ fit.lives n there ∙ sym (life_more been (MakesAct order (event_seen event)) n (Up 1) ∙ lives n (life_after been n));
@@ -140,9 +140,9 @@ module _ {D : Type 0} (on : View D) where
         → ((n : ℕ) → Among n (failed_by_event (event_seen event)) → one.result ≡ Ok (said.Faulted n)) → Happened on start outcomes awaited been old order event new
     happens_after new mid front one event before calm last makes tells falls is lives failed = record {
       steps = front ++ one ∷ [];
-      at = subst (λ (a : List Awaited). WentTo on start old (outcomes ++ Moved order (front ++ one ∷ []) (sum_of (book_of old)) ∷ []) a new)
+      at = subst (λ (a : List Awaited). WentTo on start old (outcomes ++ moved_in old order (front ++ one ∷ []) ∷ []) a new)
           (calm_left front (one ∷ []) awaited calm ∙ ap (λ (f : Option ℕ). left_after f awaited) falls)
-          (went_more on start outcomes awaited old fit.at (Moved order (front ++ one ∷ []) (sum_of (book_of old))) (left_after_all (front ++ one ∷ []) awaited) new (makes, refl, refl) tt);
+          (went_more on start outcomes awaited old fit.at (moved_in old order (front ++ one ∷ [])) (left_after_all (front ++ one ∷ []) awaited) new (makes, refl, refl, refl) tt);
       is = is;
       tells = tells;
       lives = λ n there.
@@ -163,7 +163,7 @@ module _ {D : Type 0} (on : View D) where
       record { why = why; denied = denied_ends order why (front ++ one ∷ []) (front, one, refl, refused); stops = stops },
       (
         left_after_all (front ++ one ∷ []) awaited,
-        went_more on start outcomes awaited old fit.at (Moved order (front ++ one ∷ []) (sum_of (book_of old))) (left_after_all (front ++ one ∷ []) awaited) new (makes, refl, refl) tt,
+        went_more on start outcomes awaited old fit.at (moved_in old order (front ++ one ∷ [])) (left_after_all (front ++ one ∷ []) awaited) new (makes, refl, refl, refl) tt,
       ),
       λ f bad n. last.did.lives n ∙ ap (λ (r : Result Said StepFault). life_after_step r one.step n (life_of mid n)) refused ∙ refused_life why one.step n (life_of mid n) f (sym stops ∙ bad)
           ∙ calm_lives front old mid before calm n,

@@ -23,7 +23,8 @@ use Rattle.call_tickets.specs.declared.call.Call.TheVariants.{Deliver, Login, Fe
 use Rattle.mail_base.specs.Delivers.{mail_in}
 use Rattle.node_core.specs.Beginning.{call_seen as machine_call, IsTextEnded}
 use Rattle.cluster_world.specs.Ended.{IsEnded}
-use Rattle.cluster_world.specs.Outcomes.{Outcome, StepMade, IsLeave, IsPost, AreOfRegroup}
+use Rattle.cluster_world.specs.Made.{StepMade, IsPost, AreOfRegroup}
+use Rattle.cluster_world.specs.Outcomes.{Outcome, IsLeave}
 use Rattle.cluster_world.proofs.Ordered.{IsPushOf, AreStepsOf}
 use Rattle.cluster_world.specs.declared.step.Step.{Step}
 use Rattle.cluster_world.specs.declared.step.Step.TheVariants as step

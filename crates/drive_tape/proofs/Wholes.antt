@@ -13,7 +13,8 @@ use Rattle.node_store.specs.Disks.{View}
 use Rattle.cluster_world.specs.Worlds.{life_of, disk_of_node, disks_of}
 use Rattle.cluster_world.specs.Steps.{IsStep}
 use Rattle.cluster_world.specs.Turns.{life_after_step}
-use Rattle.cluster_world.specs.Outcomes.{Outcome, Awaited, StepMade, Came, Makes, MakesSteps, IsPost, IsOfRegroup, AreOfRegroup}
+use Rattle.cluster_world.specs.Made.{StepMade, MakesSteps, IsPost, IsOfRegroup, AreOfRegroup}
+use Rattle.cluster_world.specs.Outcomes.{Outcome, Awaited, Came, Makes}
 use Rattle.cluster_world.proofs.Ordered.{AreStepsOf, AreOne, IsPushOf, order_makes, order_are}
 use Rattle.cluster_world.specs.Outcomes.Outcome.{Began, Refused, Fell, Broke, Answers, StillPending, Unanswered, GaveUp, Abandoned, KeptUp, Left, Moved}
 use Rattle.cluster_world.specs.declared.world.World.{World}
@@ -132,24 +133,24 @@ regroup_starts node (first ∷ steps) one n all among starts = ⊎_elim
     (λ (same : first ≡ one). of_regroup_starts node one n (subst (IsOfRegroup node) same all.0) starts)
     (λ (rest : Among one steps). regroup_starts node steps one n all.1 rest starts) among
 
-order_starts : (asked : ClusterOrder) (steps : List StepMade) (sum : BookSum) (one : StepMade) (n : ℕ) → AreStepsOf asked steps → Among one steps → one.step ≡ step.Start n → StartsAgain n (Moved asked steps sum)
-order_starts (order.Crash node) steps sum one n are among starts = absurd (let never : step.Crash node ≡ step.Start n = one_starts (step.Crash node) steps one n are among starts in cc)
-order_starts (order.Lose node) steps sum one n are among starts = absurd (let never : step.Lose node ≡ step.Start n = one_starts (step.Lose node) steps one n are among starts in cc)
-order_starts (order.Start node) steps sum one n are among starts = start_same node n (one_starts (step.Start node) steps one n are among starts)
+order_starts : (asked : ClusterOrder) (steps : List StepMade) (sum : BookSum) (up : List ℕ) (one : StepMade) (n : ℕ) → AreStepsOf asked steps → Among one steps → one.step ≡ step.Start n → StartsAgain n (Moved asked steps sum up)
+order_starts (order.Crash node) steps sum up one n are among starts = absurd (let never : step.Crash node ≡ step.Start n = one_starts (step.Crash node) steps one n are among starts in cc)
+order_starts (order.Lose node) steps sum up one n are among starts = absurd (let never : step.Lose node ≡ step.Start n = one_starts (step.Lose node) steps one n are among starts in cc)
+order_starts (order.Start node) steps sum up one n are among starts = start_same node n (one_starts (step.Start node) steps one n are among starts)
   where
     start_same : (a b : ℕ) → step.Start a ≡ step.Start b → a ≡ b
     start_same a b e = cc
-order_starts (order.Post letter) steps sum one n are among starts = absurd (let never : step.Post letter false ≡ step.Start n = one_starts (step.Post letter false) steps one n are among starts in cc)
-order_starts (order.Again letter) steps sum one n are among starts = absurd (let never : step.Post letter true ≡ step.Start n = one_starts (step.Post letter true) steps one n are among starts in cc)
-order_starts (order.Drop letter) steps sum one n are among starts = absurd (let never : step.Drop letter ≡ step.Start n = one_starts (step.Drop letter) steps one n are among starts in cc)
-order_starts order.Flow steps sum one n are among starts = absurd (posts_start steps one n are among starts)
-order_starts (order.Push node) steps sum one n are among starts = absurd (pushes_start node steps one n are among starts)
-order_starts (order.Widen at user id to) steps sum one n are among starts = absurd (let never : step.Widen at user id to ≡ step.Start n = one_starts (step.Widen at user id to) steps one n are among starts in cc)
-order_starts (order.Group node) steps sum one n are among starts = absurd (let never : step.Group node ≡ step.Start n = one_starts (step.Group node) steps one n are among starts in cc)
-order_starts (order.Conclude node) steps sum one n are among starts = absurd (let never : step.Conclude node ≡ step.Start n = one_starts (step.Conclude node) steps one n are among starts in cc)
-order_starts (order.Regroup node) steps sum one n are among starts = absurd (regroup_starts node steps one n are among starts)
-order_starts (order.Tick seconds) steps sum one n are among starts = absurd (let never : step.Tick seconds ≡ step.Start n = one_starts (step.Tick seconds) steps one n are among starts in cc)
-order_starts order.Sum steps sum one n are among starts = absurd (subst (Among one) are among)
+order_starts (order.Post letter) steps sum up one n are among starts = absurd (let never : step.Post letter false ≡ step.Start n = one_starts (step.Post letter false) steps one n are among starts in cc)
+order_starts (order.Again letter) steps sum up one n are among starts = absurd (let never : step.Post letter true ≡ step.Start n = one_starts (step.Post letter true) steps one n are among starts in cc)
+order_starts (order.Drop letter) steps sum up one n are among starts = absurd (let never : step.Drop letter ≡ step.Start n = one_starts (step.Drop letter) steps one n are among starts in cc)
+order_starts order.Flow steps sum up one n are among starts = absurd (posts_start steps one n are among starts)
+order_starts (order.Push node) steps sum up one n are among starts = absurd (pushes_start node steps one n are among starts)
+order_starts (order.Widen at user id to) steps sum up one n are among starts = absurd (let never : step.Widen at user id to ≡ step.Start n = one_starts (step.Widen at user id to) steps one n are among starts in cc)
+order_starts (order.Group node) steps sum up one n are among starts = absurd (let never : step.Group node ≡ step.Start n = one_starts (step.Group node) steps one n are among starts in cc)
+order_starts (order.Conclude node) steps sum up one n are among starts = absurd (let never : step.Conclude node ≡ step.Start n = one_starts (step.Conclude node) steps one n are among starts in cc)
+order_starts (order.Regroup node) steps sum up one n are among starts = absurd (regroup_starts node steps one n are among starts)
+order_starts (order.Tick seconds) steps sum up one n are among starts = absurd (let never : step.Tick seconds ≡ step.Start n = one_starts (step.Tick seconds) steps one n are among starts in cc)
+order_starts order.Sum steps sum up one n are among starts = absurd (subst (Among one) are among)
 
 -- a node that is up now was so, in the same boot, and its disk has not failed since
 pub record IsWhole {D : Type 0} (on : View D) (n now : ℕ) (old new : World D) : Type 0 where
@@ -191,7 +192,7 @@ module _ {D : Type 0} (on : View D) (n now : ℕ) where
   whole_came (Abandoned k asked ticket) awaited left old mid new came other later = whole_step _ _ old mid new came.1 (λ e. cc) later
   whole_came (KeptUp k ticket why) awaited left old mid new came other later = whole_step _ _ old mid new came.2 (λ e. cc) later
   whole_came (Left k node user) awaited left old mid new came other later = whole_step _ _ old mid new came.3 (λ e. cc) later
-  whole_came (Moved asked steps sum) awaited left old mid new came other later = whole_steps steps old mid new (order_makes on asked steps old mid came.0) (λ one among starts. other (order_starts asked steps sum one n (order_are on asked steps old mid came.0) among starts)) later
+  whole_came (Moved asked steps sum up) awaited left old mid new came other later = whole_steps steps old mid new (order_makes on asked steps old mid came.0) (λ one among starts. other (order_starts asked steps sum up one n (order_are on asked steps old mid came.0) among starts)) later
 
   whole_makes : (outcomes : List Outcome) (awaited left : List Awaited) (old new : World D) → Makes on outcomes awaited old left new → ((outcome : Outcome) → Among outcome outcomes → StartsAgain n outcome → ⊥)
       → life_of new n ≡ Up now → IsWhole on n now old new

@@ -53,7 +53,8 @@ work_more plan p q r one two = record {
   outputs = one.outputs ++ two.outputs;
   outcomes = one.outcomes ++ two.outcomes;
   goes = goes_more plan _ _ one.acts one.outputs _ _ two.acts two.outputs _ _ one.goes two.goes;
-  linked = led_more p.outcomes one.acts one.outcomes two.acts two.outcomes one.linked (subst (λ (os : List Outcome). AreLed os two.acts two.outcomes) one.came two.linked);
+  linked = led_more plan p.been p.outcomes one.acts one.outcomes two.acts two.outcomes one.linked
+      (subst (λ (os : List Outcome). AreLed plan (p.been ++ one.acts) os two.acts two.outcomes) one.came (subst (λ (d : List Act). AreLed plan d q.outcomes two.acts two.outcomes) one.been two.linked));
   at_nodes = at_nodes_more q.sessions r.sessions (goes_stay plan _ _ q.sessions r.sessions two.acts two.outputs two.goes) one.outcomes two.outcomes one.at_nodes two.at_nodes;
   came = two.came ∙ ap (λ l. l ++ two.outcomes) one.came ∙ append_assoc p.outcomes one.outcomes two.outcomes;
   been = two.been ∙ ap (λ l. l ++ two.acts) one.been ∙ append_assoc p.been one.acts two.acts;
@@ -77,7 +78,9 @@ work_cut plan stop p q held outcomes one two = record {
   new = one.outcomes ++ two.new;
   lacking = two.lacking;
   extra = two.extra;
-  linked = to_more stop p.outcomes one.acts one.outcomes two.acts two.new two.lacking two.extra one.linked (subst (λ (os : List Outcome). AreLedTo stop os two.acts two.new two.lacking two.extra) one.came two.linked);
+  linked = to_more stop plan p.been p.outcomes one.acts one.outcomes two.acts two.new two.lacking two.extra one.linked
+      (subst (λ (os : List Outcome). AreLedTo stop plan (p.been ++ one.acts) os two.acts two.new two.lacking two.extra) one.came
+      (subst (λ (d : List Act). AreLedTo stop plan d q.outcomes two.acts two.new two.lacking two.extra) one.been two.linked));
   at_nodes = at_nodes_more q.sessions two.sessions (goes_stay plan _ _ q.sessions two.sessions two.acts two.outputs two.goes) one.outcomes two.new one.at_nodes two.at_nodes;
   came = two.came ∙ ap (λ l. l ++ two.new) one.came ∙ append_assoc p.outcomes one.outcomes two.new;
   asked = two.asked;
@@ -103,7 +106,7 @@ cut_none plan p = record {
   new = [];
   lacking = [];
   extra = [];
-  linked = to_none OutOfMemory p.outcomes;
+  linked = to_none OutOfMemory plan p.been p.outcomes;
   at_nodes = tt;
   came = sym (append-nil p.outcomes);
   asked = inl refl;
@@ -125,7 +128,7 @@ work_act plan p q act entries outcomes one came been gave = record {
   outputs = entries ∷ [];
   outcomes = outcomes;
   goes = (q.turn, q.sessions, one.next, one.acted, (refl, refl));
-  linked = led_one p.outcomes act outcomes one.linked;
+  linked = led_one plan p.been p.outcomes act outcomes one.linked;
   at_nodes = one.at_nodes;
   came = came;
   been = been;
@@ -145,7 +148,7 @@ cut_act plan p act entries outcomes turn sessions stop held front missing cut on
   new = outcomes;
   lacking = [];
   extra = [];
-  linked = to_whole stop p.outcomes (act ∷ []) outcomes (led_one p.outcomes act outcomes one.linked);
+  linked = to_whole stop plan p.been p.outcomes (act ∷ []) outcomes (led_one plan p.been p.outcomes act outcomes one.linked);
   at_nodes = one.at_nodes;
   came = refl;
   asked = nothing_more stop turn sessions;

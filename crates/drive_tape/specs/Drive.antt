@@ -1,6 +1,7 @@
 -- What driving a cluster by a tape did, over the octets that were read and those that were written.
 use Rattle.std.specs.Prelude.{◌≡◌, ◌⊎◌, ◌<◌, ◌≤◌, ◌+◌, ◌^◌, ℕ, List, [], ◌∷◌, ◌++◌, length, map, flat_map, All, ⊤, Option, Some, None, Err}
 use Rattle.std.specs.Io.KnownBytes.{Consumes, Appends, IsAtEnd}
+use Rattle.mail_model.specs.Identity.{EpochId}
 use Rattle.mail_model.specs.Lines.{HasNoLf, ended}
 use Rattle.mail_model.specs.Plan.{Plan}
 use Rattle.mail_model.specs.Tape.{Order, tape_order}
@@ -8,14 +9,17 @@ use Rattle.mail_model.specs.Tape.Order.{End}
 use Rattle.mail_model.specs.Transcript.{Entry, entry_line, written_of}
 use Rattle.session_model.specs.Sessions.{Session}
 use Rattle.session_model.specs.Acts.{Act}
-use Rattle.session_model.specs.Acts.Act.{StillWaits}
+use Rattle.session_model.specs.Acts.Act.{StillWaits, Makes as MakesAct}
+use Rattle.session_model.specs.Events.ClusterEvent.{HasFormed}
 use Rattle.session_model.specs.Logs.{Asked}
-use Rattle.session_model.specs.Lives.{failed_in}
+use Rattle.session_model.specs.Lives.{failed_in, life_after}
 use Rattle.session_model.specs.Run.{Stop, IsDriven, IsCutShort, refusal}
 use Rattle.session_model.specs.Kept.{IsEnding}
 use Rattle.session_model.specs.Run.Stop.{BehindLine, Denied, SinkFailed, OutOfMemory}
 use Rattle.node_store.specs.Disks.{View}
-use Rattle.cluster_world.specs.Outcomes.{Outcome, Awaited, StepMade, Makes, made_of, asked_by_outcome}
+use Rattle.cluster_world.specs.Lives.{nodes_up}
+use Rattle.cluster_world.specs.Made.{StepMade}
+use Rattle.cluster_world.specs.Outcomes.{Outcome, Awaited, Makes, made_of, asked_by_outcome}
 use Rattle.cluster_world.specs.Outcomes.Outcome.{Moved, KeptUp}
 use Rattle.session_model.specs.Events.NodeLife.{Up}
 use Rattle.mail_model.specs.Tape.{ClusterOrder as order}
@@ -26,7 +30,8 @@ use Rattle.cluster_model.specs.Progress.Ask.{Pending}
 use Rattle.object_model.specs.Letters.{Number}
 use Rattle.cluster_world.specs.Worlds.{state_of, plan_of, disk_of_node, life_of}
 use Rattle.cluster_world.specs.Telling.{standing_in}
-use Rattle.cluster_world.specs.Wholes.{IsWhole, HasOneMap}
+use Rattle.cluster_world.specs.Sound.{IsWhole}
+use Rattle.cluster_world.specs.Wholes.{HasOneMap}
 use Rattle.cluster_world.specs.declared.fault.StepFault.{StepFault}
 use Rattle.object_model.specs.Lists.{Among}
 use Rattle.cluster_world.specs.declared.world.World.{World}
@@ -83,7 +88,7 @@ NamesLine (drove.NoMemory n) line = n ≡ line
 
 -- the steps of an outcome were denied, for this fault of the tape
 abbrev pub IsDenied : TapeFault → Outcome → Type 0
-IsDenied fault (Moved order steps sum) = (cause : StepFault) × AreDenied order cause steps × (stop_by cause ≡ why.Bad fault)
+IsDenied fault (Moved order steps sum up) = (cause : StepFault) × AreDenied order cause steps × (stop_by cause ≡ why.Bad fault)
 IsDenied fault (KeptUp k ticket cause) = stop_by cause ≡ why.Bad fault
 IsDenied fault outcome = ⊥
 
@@ -106,7 +111,7 @@ Stops why.NoMemory stop plan been sessions midst left octets room outcomes = (st
 
 -- a run line started the node
 abbrev pub StartsAgain : ℕ → Outcome → Type 0
-StartsAgain n (Moved (order.Start node) steps sum) = node ≡ n
+StartsAgain n (Moved (order.Start node) steps sum up) = node ≡ n
 StartsAgain n outcome = ⊥
 
 -- Whatever world the run came by, a node that is up at last and was not started again behind it has a disk that has not failed since.
@@ -119,6 +124,11 @@ StaysWhole {D} on start outcomes left last = (front back : List Outcome) (betwee
 abbrev pub HasLetters : {D : Type 0} → World D → Type 0
 HasLetters world = (number : Number) (ticket : Ticket) (got wanted : ℕ) → standing_in world number ≡ Some ticket → ask_of (plan_of world).confirm ticket ≡ Pending got wanted
     → (flight : Flight) × Among flight (state_of world).flying.flights × (flight.letter.ticket ≡ Some number)
+
+-- Wherever a node regrouped and an epoch was formed, the members that are named are the nodes that were up: those that the acts before left so, in rising order.
+abbrev pub NamesTheUp : Plan → List Act → Type 0
+NamesTheUp plan acts = (before behind : List Act) (node : ℕ) (epoch : EpochId) (members : List ℕ) → acts ≡ before ++ MakesAct (order.Regroup node) (HasFormed epoch members) ∷ behind
+    → members ≡ nodes_up (life_after before) plan.nodes
 
 -- The whole: the octets that were read begin with the lines that were handled, and the one in whose midst the work stopped, if there is one; the run of these
 -- lines is this; what was written is its entries, the last line of them perhaps in part; the world made its steps and no others; the answer says why it
@@ -148,7 +158,7 @@ pub record Drives {D : Type 0} (on : View D) (start : World D) (left0 left1 held
   pub lacking : List Asked
   pub steps : Makes on outcomes [] start awaited last
   -- act by act, the steps are those that the act tells of
-  pub led : AreLedTo stop [] (flat_map (λ a. a) (acts ++ behind)) outcomes lacking driven.extra
+  pub led : AreLedTo stop (plan_of start) [] [] (flat_map (λ a. a) (acts ++ behind)) outcomes lacking driven.extra
   -- each call began at the node of its session, and each user left there
   pub at_nodes : AreAtOwnNodes sessions outcomes
   -- the nodes are as the acts left them; as memory runs out, one may have gone down with it
@@ -160,6 +170,8 @@ pub record Drives {D : Type 0} (on : View D) (start : World D) (left0 left1 held
   -- the world that came back stands for a sound one of the whole machine, so all memberships of one epoch are equal: those that nodes have installed, and those that are on their way
   pub sound : AreToldOrBlind on start (handled ++ midst) → IsWhole on (plan_of start) last
   pub one_map : AreToldOrBlind on start (handled ++ midst) → HasOneMap (state_of last)
+  -- the members that a regroup names are the nodes that were up
+  pub named : AreToldOrBlind on start (handled ++ midst) → NamesTheUp (plan_of start) (flat_map (λ a. a) (acts ++ behind))
   pub why : Stops (stop_of answer) stop (plan_of start) (flat_map (λ a. a) acts) sessions midst left1 others room outcomes
   pub number : NamesLine answer (from + length handled + 1)
   pub whole : (IsCutShort stop → ⊥) → cut ≡ []

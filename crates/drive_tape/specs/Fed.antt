@@ -159,7 +159,7 @@ pub record IsTelling {D : Type 0} (on : View D) (start : World D) (plan : Plan) 
   pub outcomes : List Outcome
   pub starts : Starts plan p.been order p.sessions act q.turn
   pub acted : Acted plan p.sessions act (said_lines (place + 1) said ++ (if has_ended after then closed_event (place + 1) ∷ [] else [])) q.sessions
-  pub linked : Led p.outcomes act outcomes
+  pub linked : Led plan p.been p.outcomes act outcomes
   pub at_nodes : AreAtOwnNodes q.sessions outcomes
   pub came : q.outcomes ≡ p.outcomes ++ outcomes
   pub been : q.been ≡ p.been ++ act ∷ []

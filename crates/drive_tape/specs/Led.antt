@@ -3,6 +3,7 @@ use Rattle.std.specs.Prelude.{◌≡◌, ◌⊎◌, ℕ, ◌+◌, ◌-◌, ◌^�
 use Rattle.object_model.specs.Letters.{Number}
 use Rattle.object_model.specs.Sets.{nodes_in}
 use Rattle.session_model.specs.Sums.{BookSum}
+use Rattle.mail_model.specs.Plan.{Plan}
 use Rattle.mail_model.specs.Tape.{ClusterOrder}
 use Rattle.mail_model.specs.Tape.{ClusterOrder as order}
 use Rattle.session_model.specs.Calls.{Call}
@@ -11,10 +12,13 @@ use Rattle.session_model.specs.Events.ClusterEvent.{WentDown, CameUp, WasLost, W
 use Rattle.session_model.specs.Acts.{Act}
 use Rattle.session_model.specs.Acts.Act.{Opens, Does, Faults, StillWaits, Leaves, Makes, Abandons}
 use Rattle.session_model.specs.Acts.Deed.{IsFed, Hears, IsAnswered, IsGivenUp, Falls, Closes}
+use Rattle.session_model.specs.Lives.{life_after}
 use Rattle.session_model.specs.Logs.{Asked}
 use Rattle.session_model.specs.Run.{Made, Stop}
 use Rattle.session_model.specs.Run.Stop.{OutOfMemory}
-use Rattle.cluster_world.specs.Outcomes.{Outcome, StepMade, made_of, has_failed}
+use Rattle.cluster_world.specs.Lives.{nodes_up}
+use Rattle.cluster_world.specs.Made.{StepMade, has_failed}
+use Rattle.cluster_world.specs.Outcomes.{Outcome, made_of}
 use Rattle.cluster_world.specs.Outcomes.Outcome.{Began, Refused, Fell, Broke, Answers, StillPending, Unanswered, GaveUp, Abandoned, KeptUp, Left, Moved}
 use Rattle.cluster_world.specs.declared.step.Step.{Step}
 use Rattle.cluster_world.specs.declared.step.Step.TheVariants as step
@@ -78,25 +82,26 @@ Begins k (Some asked) outcomes =
 abbrev pub EndsFell : ℕ → List Outcome → Type 0
 EndsFell node outcomes = (before : List Outcome) × (k : ℕ) × (asked : Call) × (outcomes ≡ before ++ Fell k node asked ∷ [])
 
--- What the cluster made of an act, behind what it had made before. That a disk failed is noted behind the call that its node fell in.
-abbrev pub Led : List Outcome → Act → List Outcome → Type 0
-Led before (Opens protocol node greeting) outcomes = outcomes ≡ []
-Led before (Does k (Hears one)) outcomes = Begins k one.call outcomes
-Led before (Does k (IsAnswered call answer reply)) outcomes = (ticket : Number) × (outcomes ≡ Answers k call ticket answer ∷ [])
-Led before (Does k (IsGivenUp call reply)) outcomes = (ticket : Number) × (outcomes ≡ GaveUp k call ticket ∷ [])
-Led before (Does k (IsFed octets)) outcomes = outcomes ≡ []
-Led before (Does k Falls) outcomes = outcomes ≡ []
-Led before (Does k Closes) outcomes = outcomes ≡ []
-Led before (Faults node) outcomes = (outcomes ≡ []) × EndsFell node before
-Led before (StillWaits k) outcomes = (ticket : Number) × (outcomes ≡ StillPending k ticket ∷ [])
-Led before (Leaves k user) outcomes = (node : ℕ) × (outcomes ≡ Left k node user ∷ [])
-Led before (Makes asked event) outcomes = (steps : List StepMade) × (sum : BookSum) × (outcomes ≡ Moved asked steps sum ∷ []) × Tells asked steps sum event
-Led before (Abandons k) outcomes = (asked : Call) × (ticket : Number) × (outcomes ≡ Abandoned k asked ticket ∷ [])
+-- What the cluster made of an act, behind the acts so far and what it had made of them. That a disk failed is noted behind the call that its node fell in. As a run line
+-- moves the cluster those nodes are up that the acts so far left so.
+abbrev pub Led : Plan → List Act → List Outcome → Act → List Outcome → Type 0
+Led plan been before (Opens protocol node greeting) outcomes = outcomes ≡ []
+Led plan been before (Does k (Hears one)) outcomes = Begins k one.call outcomes
+Led plan been before (Does k (IsAnswered call answer reply)) outcomes = (ticket : Number) × (outcomes ≡ Answers k call ticket answer ∷ [])
+Led plan been before (Does k (IsGivenUp call reply)) outcomes = (ticket : Number) × (outcomes ≡ GaveUp k call ticket ∷ [])
+Led plan been before (Does k (IsFed octets)) outcomes = outcomes ≡ []
+Led plan been before (Does k Falls) outcomes = outcomes ≡ []
+Led plan been before (Does k Closes) outcomes = outcomes ≡ []
+Led plan been before (Faults node) outcomes = (outcomes ≡ []) × EndsFell node before
+Led plan been before (StillWaits k) outcomes = (ticket : Number) × (outcomes ≡ StillPending k ticket ∷ [])
+Led plan been before (Leaves k user) outcomes = (node : ℕ) × (outcomes ≡ Left k node user ∷ [])
+Led plan been before (Makes asked event) outcomes = (steps : List StepMade) × (sum : BookSum) × (outcomes ≡ Moved asked steps sum (nodes_up (life_after been) plan.nodes) ∷ []) × Tells asked steps sum event
+Led plan been before (Abandons k) outcomes = (asked : Call) × (ticket : Number) × (outcomes ≡ Abandoned k asked ticket ∷ [])
 
 -- so it is of acts, one after another
 abbrev pub AreLed : List Outcome → List Act → List Outcome → Type 0
 AreLed before [] outcomes = outcomes ≡ []
-AreLed before (act ∷ acts) outcomes =
+AreLed plan been before (act ∷ acts) outcomes =
     (own : List Outcome) × (others : List Outcome) × (outcomes ≡ own ++ others) × Led before act own × AreLed (before ++ own) acts others
 
 -- The steps of a run line were denied: the last of them was refused so; or a regroup, before its first step, for want of room.
@@ -108,7 +113,7 @@ AreDenied asked why steps = EndsIn (Err why) steps
 abbrev pub IsUntold : Outcome → Type 0
 IsUntold (Unanswered k asked ticket) = ⊤
 IsUntold (KeptUp k ticket why) = ⊤
-IsUntold (Moved asked steps sum) = (why : StepFault) × AreDenied asked why steps
+IsUntold (Moved asked steps sum up) = (why : StepFault) × AreDenied asked why steps
 IsUntold outcome = ⊥
 
 -- nothing came of the call but this: it was refused, and is lacking among those that have begun; or its node went down in it as memory ran out
@@ -126,12 +131,12 @@ EndsWith (Does k (Hears one) ∷ []) (outcome ∷ []) stop lacking extra =
 EndsWith acts outcomes stop lacking extra = ⊥
 
 -- What the cluster made of acts, up to where the work stopped.
-pub record AreLedTo (stop : Stop) (before : List Outcome) (acts : List Act) (outcomes : List Outcome) (lacking : List Asked) (extra : List Made) : Type 0 where
+pub record AreLedTo (stop : Stop) (plan : Plan) (been : List Act) (before : List Outcome) (acts : List Act) (outcomes : List Outcome) (lacking : List Asked) (extra : List Made) : Type 0 where
   pub done : List Act
   pub last : List Act
   pub acts_are : acts ≡ done ++ last
   pub own : List Outcome
   pub rest : List Outcome
   pub outcomes_are : outcomes ≡ own ++ rest
-  pub led : AreLed before done own
+  pub led : AreLed plan been before done own
   pub ends : EndsWith last rest stop lacking extra

@@ -39,7 +39,7 @@ pub record IsStarted (plan : Plan) (p q : Point) (order : Order) : Type 0 where
   pub starts : Starts plan p.been order p.sessions first q.turn
   pub acted : Acted plan p.sessions first said q.sessions
   pub outcomes : List Outcome
-  pub linked : Led p.outcomes first outcomes
+  pub linked : Led plan p.been p.outcomes first outcomes
   pub at_nodes : AreAtOwnNodes q.sessions outcomes
   pub came : q.outcomes ≡ p.outcomes ++ outcomes
   pub been : q.been ≡ p.been ++ first ∷ []
@@ -52,7 +52,7 @@ pub record LineWent {D : Type 0} (on : View D) (start : World D) (plan : Plan) (
   pub outputs : List (List Entry)
   pub outcomes : List Outcome
   pub handled : IsHandled plan p.been p.sessions line acts outputs q.sessions
-  pub linked : AreLed p.outcomes acts outcomes
+  pub linked : AreLed plan p.been p.outcomes acts outcomes
   pub at_nodes : AreAtOwnNodes q.sessions outcomes
   pub came : q.outcomes ≡ p.outcomes ++ outcomes
   pub been : q.been ≡ p.been ++ acts
@@ -84,7 +84,7 @@ pub record LineStopped {D : Type 0} (on : View D) (start : World D) (plan : Plan
   pub new : List Outcome
   pub why : IsWhy reason plan p line stop midst new
   pub lacking : List Asked
-  pub linked : AreLedTo stop p.outcomes (flat_map (λ a. a) behind) new lacking extra
+  pub linked : AreLedTo stop plan p.been p.outcomes (flat_map (λ a. a) behind) new lacking extra
   pub at_nodes : AreAtOwnNodes sessions new
   pub since : IsSince on start (p.outcomes ++ new) world
   pub lives : (stop ≡ OutOfMemory → ⊥) → AreLives plan (p.been ++ flat_map (λ a. a) behind) world

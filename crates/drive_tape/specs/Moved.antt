@@ -11,8 +11,8 @@ use Rattle.session_model.specs.Run.{IsAlwaysDone, cluster_refusal}
 use Rattle.node_store.specs.Disks.{View}
 use Rattle.cluster_world.specs.Worlds.{plan_of, book_of}
 use Rattle.cluster_world.specs.Steps.{IsStep}
-use Rattle.cluster_world.specs.Outcomes.{Outcome, Awaited, StepMade, left_after}
-use Rattle.cluster_world.specs.Outcomes.Outcome.{Moved}
+use Rattle.cluster_world.specs.Made.{StepMade}
+use Rattle.cluster_world.specs.Outcomes.{Outcome, Awaited, moved_in, left_after}
 use Rattle.cluster_world.specs.declared.world.World.{World}
 use Rattle.cluster_world.specs.declared.step.Step.TheVariants as step
 use Rattle.cluster_world.specs.declared.step.Said.{Said}
@@ -35,7 +35,7 @@ pub record OrderIsFit {D : Type 0} (on : View D) (start : World D) (outcomes : L
 -- The steps were made, and this came of them.
 pub record Happened {D : Type 0} (on : View D) (start : World D) (outcomes : List Outcome) (awaited : List Awaited) (been : List Act) (old : World D) (order : ClusterOrder) (event : ClusterEvent) (world : World D) : Type 0 where
   pub steps : List StepMade
-  pub at : WentTo on start old (outcomes ++ Moved order steps (sum_of (book_of old)) ∷ []) (left_after (fallen_by (event_seen event)) awaited) world
+  pub at : WentTo on start old (outcomes ++ moved_in old order steps ∷ []) (left_after (fallen_by (event_seen event)) awaited) world
   pub is : IsEventOf (plan_of old) (life_after been) order (event_seen event)
   pub tells : Tells order steps (sum_of (book_of old)) (event_seen event)
   pub lives : AreLives (plan_of old) (been ++ Makes order (event_seen event) ∷ []) world
@@ -50,7 +50,7 @@ pub record IsDeniedBy (order : ClusterOrder) (steps : List StepMade) (stop : Sto
 abbrev pub MovedSo : {D : Type 0} → View D → World D → List Outcome → List Awaited → List Act → World D → ClusterOrder → Result ClusterEvent Stop → World D → Type 0
 MovedSo on start outcomes awaited been old order (Ok event) world = Happened on start outcomes awaited been old order event world
 MovedSo on start outcomes awaited been old order (Err stop) world =
-    (IsAlwaysDone order → ⊥) × (steps : List StepMade) × IsDeniedBy order steps stop × HasGone on start old (outcomes ++ Moved order steps (sum_of (book_of old)) ∷ []) world × StaysOn stop old world
+    (IsAlwaysDone order → ⊥) × (steps : List StepMade) × IsDeniedBy order steps stop × HasGone on start old (outcomes ++ moved_in old order steps ∷ []) world × StaysOn stop old world
 
 -- one node pushed to another
 abbrev pub PushedSo : {D : Type 0} → View D → ℕ → ℕ → Result (Option ℕ) Stop → World D → World D → Type 0

@@ -54,7 +54,7 @@ pub record Work (plan : Plan) (p q : Point) : Type 0 where
   pub outputs : List (List Entry)
   pub outcomes : List Outcome
   pub goes : turns.ActsGo plan p.turn p.sessions acts outputs q.turn q.sessions
-  pub linked : AreLed p.outcomes acts outcomes
+  pub linked : AreLed plan p.been p.outcomes acts outcomes
   pub at_nodes : AreAtOwnNodes q.sessions outcomes
   pub came : q.outcomes ≡ p.outcomes ++ outcomes
   pub been : q.been ≡ p.been ++ acts
@@ -64,7 +64,7 @@ pub record Work (plan : Plan) (p q : Point) : Type 0 where
 pub record OneAct (plan : Plan) (p : Point) (act : Act) (entries : List Entry) (outcomes : List Outcome) (turn : Turn) (sessions : List Session) : Type 0 where
   pub next : Next p.turn p.sessions act turn
   pub acted : Acted plan p.sessions act entries sessions
-  pub linked : Led p.outcomes act outcomes
+  pub linked : Led plan p.been p.outcomes act outcomes
   pub at_nodes : AreAtOwnNodes sessions outcomes
 
 -- nothing of it is missing, or lines of the last act
@@ -88,7 +88,7 @@ pub record Cut (plan : Plan) (stop : Stop) (p : Point) (held : Option (List ℕ)
   pub new : List Outcome
   pub lacking : List Asked
   pub extra : List Made
-  pub linked : AreLedTo stop p.outcomes acts new lacking extra
+  pub linked : AreLedTo stop plan p.been p.outcomes acts new lacking extra
   pub at_nodes : AreAtOwnNodes sessions new
   pub came : outcomes ≡ p.outcomes ++ new
   pub asked : MayHaveAsked stop turn sessions extra

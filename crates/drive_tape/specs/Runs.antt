@@ -29,7 +29,7 @@ pub record Progress {D : Type 0} (on : View D) (start : World D) (left0 left1 he
   pub outputs : List (List (List Entry))
   pub point : Point
   pub are : AreHandled (plan_of start) [] [] handled acts outputs point.sessions
-  pub linked : AreLed [] (flat_map (λ a. a) acts) point.outcomes
+  pub linked : AreLed (plan_of start) [] [] (flat_map (λ a. a) acts) point.outcomes
   pub at_nodes : AreAtOwnNodes point.sessions point.outcomes
   pub been : point.been ≡ flat_map (λ a. a) acts
   pub gave : Appends held0 held1 (written_of (flat_map all_of outputs))

@@ -124,7 +124,8 @@
 //! session; what the clients asked is what was begun, and what they were answered is what was asked for; the answer
 //! says why it went no further; a node went down by itself only where its disk failed, or does not tell what it
 //! holds; and the promises to clients are kept by the disks and the book of the world that came back (`kept`), where
-//! the disks tell what they hold, or no line starts a node or pushes.
+//! the disks tell what they hold, or no line starts a node or pushes. Then the members that a `regroup` line names are
+//! exactly the nodes that were up (`named`), too.
 //!
 //! WHAT IT DOES NOT DO
 //!

@@ -12,6 +12,7 @@ use Rattle.session_model.specs.Sums.{BookSum}
 use Rattle.session_model.specs.Talk.{Exchange}
 use Rattle.session_model.specs.Events.{ClusterEvent}
 use Rattle.session_model.specs.Events.ClusterEvent.{WentDown, CameUp, WasLost, WasHeard, WasThrown, WasDropped, HasFlowed, HasSent, HasWidened, HasGrouped, HasFormed, HasTicked, HasSummed, HasFaulted}
+use Rattle.session_model.specs.Lives.{life_after}
 use Rattle.session_model.specs.SoundMails.{IsSoundMail}
 use Rattle.session_model.specs.Acts.{Act}
 use Rattle.session_model.specs.Acts.Act.{Opens, Does, Faults, StillWaits, Leaves, Makes as MakesAct, Abandons}
@@ -31,7 +32,9 @@ use Rattle.cluster_world.specs.Worlds.{StandsFor}
 use Rattle.cluster_world.specs.Seen.{step_seen, outcome_seen}
 use Rattle.cluster_world.specs.Ended.{IsEnded}
 use Rattle.cluster_world.specs.Steps.{IsStep}
-use Rattle.cluster_world.specs.Outcomes.{Outcome, Awaited, StepMade, Came, Makes, IsLeave, has_failed, without_session, left_after, left_after_all, fallen_in}
+use Rattle.cluster_world.specs.Lives.{nodes_up}
+use Rattle.cluster_world.specs.Made.{StepMade, has_failed}
+use Rattle.cluster_world.specs.Outcomes.{Outcome, Awaited, Came, Makes, IsLeave, without_session, left_after, left_after_all, fallen_in}
 use Rattle.cluster_world.specs.Outcomes.Outcome.{Began, Refused, Fell, Broke, Answers, StillPending, Unanswered, GaveUp, Abandoned, KeptUp, Left, Moved}
 use Rattle.cluster_world.specs.declared.world.World.{World}
 use Rattle.cluster_world.specs.declared.step.Step.{Step}
@@ -311,8 +314,8 @@ module _ {D : Type 0} (on : View D) (plan : Plan) (lines : List (List ℕ)) wher
           stood = λ a m. stood a (fewer (fallen_in (step.Begin node call) result) awaited a (subst (Among a) left_is m));
         }
 
-    moves : (asked : ClusterOrder) (made : List StepMade) (sum : BookSum) (event : ClusterEvent) → Tells asked made sum event → Came on (Moved asked made sum) awaited old between mid → OneMade (MakesAct asked event) standing w between mid
-    moves asked made sum event tells (makes, left_is, sum_is) =
+    moves : (asked : ClusterOrder) (made : List StepMade) (sum : BookSum) (up : List ℕ) (event : ClusterEvent) → Tells asked made sum event → Came on (Moved asked made sum up) awaited old between mid → OneMade (MakesAct asked event) standing w between mid
+    moves asked made sum up event tells (makes, left_is, sum_is, up_is) =
         let o = order_follows on plan asked made old mid known w stands makes in
         record {
           now = standing;
@@ -324,10 +327,10 @@ module _ {D : Type 0} (on : View D) (plan : Plan) (lines : List (List ℕ)) wher
         }
 
   -- one act
-  one_act : (act : Act) (before own rest : List Outcome) → Led before act own → (standing : List Standing) (w : machine.World) (awaited left : List Awaited) (old last : World D)
+  one_act : (act : Act) (planned : Plan) (been : List Act) (before own rest : List Outcome) → Led planned been before act own → (standing : List Standing) (w : machine.World) (awaited left : List Awaited) (old last : World D)
       → IsOf on plan true old → StandsFor on old w → HaveStood awaited standing → ((outcome : Outcome) → Among outcome own → IsPlaced outcome)
       → Makes on (own ++ rest) awaited old left last → Followed (act ∷ []) rest standing w left last
-  one_act act before own rest is standing w awaited left old last known stands stood placed makes = by act is
+  one_act act planned been before own rest is standing w awaited left old last known stands stood placed makes = by act is
     where
       -- nothing came of it
       idle : (a : Act) → Follows plan lines a standing w standing w → own ≡ [] → Followed (a ∷ []) rest standing w left last
@@ -370,7 +373,7 @@ module _ {D : Type 0} (on : View D) (plan : Plan) (lines : List (List ℕ)) wher
       hears k one (Some asked) is_call (node, inr own_is) =
           once (Does k (Hears one)) (Fell k node asked) own_is (λ between mid came. fell standing w awaited between old mid known stands stood k node one asked is_call (the_one (Fell k node asked) own_is) came)
 
-      by : (a : Act) → Led before a own → Followed (a ∷ []) rest standing w left last
+      by : (a : Act) → Led planned been before a own → Followed (a ∷ []) rest standing w left last
       by (Opens protocol node greeting) l = idle (Opens protocol node greeting) (refl, refl) l
       by (Does k (Hears one)) l = hears k one one.call refl l
       by (Does k (IsAnswered call answer reply)) l = once (Does k (IsAnswered call answer reply)) (Answers k call l.0 answer) l.1 (λ between mid came. answers standing w awaited between old mid known stands stood k call l.0 answer reply came)
@@ -381,14 +384,15 @@ module _ {D : Type 0} (on : View D) (plan : Plan) (lines : List (List ℕ)) wher
       by (Faults node) l = idle (Faults node) (refl, refl) l.0
       by (StillWaits k) l = once (StillWaits k) (StillPending k l.0) l.1 (λ between mid came. waits standing w awaited between old mid known stands stood k l.0 came)
       by (Leaves k user) l = once (Leaves k user) (Left k l.0 user) l.1 (λ between mid came. leaves standing w awaited between old mid known stands stood k l.0 user (the_one (Left k l.0 user) l.1) came)
-      by (MakesAct asked event) l = once (MakesAct asked event) (Moved asked l.0 l.1) l.2 (λ between mid came. moves standing w awaited between old mid known stands stood asked l.0 l.1 event l.3 came)
+      by (MakesAct asked event) l = once (MakesAct asked event) (Moved asked l.0 l.1 (nodes_up (life_after been) planned.nodes)) l.2
+          (λ between mid came. moves standing w awaited between old mid known stands stood asked l.0 l.1 (nodes_up (life_after been) planned.nodes) event l.3 came)
       by (Abandons k) l = once (Abandons k) (Abandoned k l.0 l.1) l.2 (λ between mid came. abandons standing w awaited between old mid known stands stood k l.0 l.1 came)
 
   -- acts, one after another
-  pub all_acts : (acts : List Act) (before own rest : List Outcome) → AreLed before acts own → (standing : List Standing) (w : machine.World) (awaited left : List Awaited) (old last : World D)
+  pub all_acts : (acts : List Act) (planned : Plan) (been : List Act) (before own rest : List Outcome) → AreLed planned been before acts own → (standing : List Standing) (w : machine.World) (awaited left : List Awaited) (old last : World D)
       → IsOf on plan true old → StandsFor on old w → HaveStood awaited standing → ((outcome : Outcome) → Among outcome own → IsPlaced outcome)
       → Makes on (own ++ rest) awaited old left last → Followed acts rest standing w left last
-  all_acts [] before own rest none standing w awaited left old last known stands stood placed makes = record {
+  all_acts [] planned been before own rest none standing w awaited left old last known stands stood placed makes = record {
     now = standing;
     next = w;
     between = awaited;
@@ -399,11 +403,11 @@ module _ {D : Type 0} (on : View D) (plan : Plan) (lines : List (List ℕ)) wher
     stood = stood;
     makes = subst (λ (l : List Outcome). Makes on (l ++ rest) awaited old left last) none makes;
   }
-  all_acts (act ∷ acts) before own rest (mine, others, parts, one, more) standing w awaited left old last known stands stood placed makes =
-      let f = one_act act before mine (others ++ rest) one standing w awaited left old last known stands stood
+  all_acts (act ∷ acts) planned been before own rest (mine, others, parts, one, more) standing w awaited left old last known stands stood placed makes =
+      let f = one_act act planned been before mine (others ++ rest) one standing w awaited left old last known stands stood
       (λ outcome m. placed outcome (subst (Among outcome) (sym parts) (among_front outcome mine others m)))
       (subst (λ (l : List Outcome). Makes on l awaited old left last) (append_assoc mine others rest) (subst (λ (l : List Outcome). Makes on (l ++ rest) awaited old left last) parts makes)) in
-      let g = all_acts acts (before ++ mine) others rest more f.now f.next f.between left f.mid last f.known f.stands f.stood
+      let g = all_acts acts planned (been ++ act ∷ []) (before ++ mine) others rest more f.now f.next f.between left f.mid last f.known f.stands f.stood
       (λ outcome m. placed outcome (subst (Among outcome) (sym parts) (among_behind outcome mine others m))) f.makes in
       record {
         now = g.now;

@@ -34,7 +34,8 @@ use Rattle.cluster_world.specs.Opens.{IsAtBeginning}
 use Rattle.cluster_world.specs.Worlds.{plan_of, disks_tell, StandsFor}
 use Rattle.cluster_world.specs.Seen.{outcome_seen}
 use Rattle.cluster_world.specs.Owing.{IsOfSession, AreOfSessions}
-use Rattle.cluster_world.specs.Outcomes.{Outcome, Awaited, StepMade, Came, Makes, made_of}
+use Rattle.cluster_world.specs.Made.{StepMade}
+use Rattle.cluster_world.specs.Outcomes.{Outcome, Awaited, Came, Makes, made_of}
 use Rattle.cluster_world.specs.Outcomes.Outcome.{Began, Refused, Fell, Broke, Answers, StillPending, Unanswered, GaveUp, Abandoned, KeptUp, Left, Moved}
 use Rattle.cluster_world.specs.declared.world.World.{World}
 use Rattle.cluster_world.specs.declared.step.Step.TheVariants as step
@@ -98,7 +99,7 @@ denied_alike asked cause f is made denied = subst (λ out. asks.EndsIn out (map 
 module _ {D : Type 0} (on : View D) (start last : World D) (begins : IsAtBeginning on (plan_of start) start) (told : disks_tell on.seen start ≡ true) (plan : Plan) (same : plan_of start ≡ plan)
     (stop : Stop) (handled midst : List (List ℕ)) (acts behind : List (List Act)) (outcomes : List Outcome) (entries : List Entry) (sessions : List Session)
     (driven : IsDriven (plan_of start) stop handled midst acts behind (map made_of outcomes) entries sessions) (awaited : List Awaited) (makes : Makes on outcomes [] start awaited last)
-    (at_nodes : AreAtOwnNodes sessions outcomes) (lacking : List Asked) (leads : AreLedTo stop [] (flat_map (λ a. a) (acts ++ behind)) outcomes lacking driven.extra)
+    (at_nodes : AreAtOwnNodes sessions outcomes) (lacking : List Asked) (leads : AreLedTo stop (plan_of start) [] [] (flat_map (λ a. a) (acts ++ behind)) outcomes lacking driven.extra)
     (lines others : List (List ℕ)) (first : lines ≡ (handled ++ midst) ++ others) (ample : stop ≡ OutOfMemory → ⊥) where
   kinds : opened lines ≡ opened (handled ++ midst) ++ opened others
   kinds = ap opened first ∙ flat_map-append (λ (line : List ℕ). opened_at (tape_order line)) (handled ++ midst) others
@@ -129,14 +130,14 @@ module _ {D : Type 0} (on : View D) (start last : World D) (begins : IsAtBeginni
       by (GaveUp k asked ticket) own of_it = tt
       by (Abandoned k asked ticket) own of_it = tt
       by (KeptUp k ticket cause) own of_it = tt
-      by (Moved asked made sum) own of_it = tt
+      by (Moved asked made sum up) own of_it = tt
 
   done_are : leads.done ≡ flat_map (λ a. a) (acts ++ behind)
   done_are = sym (append-nil leads.done) ∙ ap (λ l. leads.done ++ l) (sym (none_left leads.last leads.rest stop lacking driven.extra leads.ends ample)) ∙ sym leads.acts_are
 
   pub followed : Followed on plan lines (flat_map (λ a. a) (acts ++ behind)) leads.rest [] (opening_world plan.nodes (first_map plan)) awaited last
   followed = subst (λ l. Followed on plan lines l leads.rest [] (opening_world plan.nodes (first_map plan)) awaited last) done_are
-      (all_acts on plan lines leads.done [] leads.own leads.rest leads.led [] (opening_world plan.nodes (first_map plan)) [] awaited start last (record { plan_is = same; told_is = told })
+      (all_acts on plan lines leads.done (plan_of start) [] [] leads.own leads.rest leads.led [] (opening_world plan.nodes (first_map plan)) [] awaited start last (record { plan_is = same; told_is = told })
       (subst (λ (p : Plan). StandsFor on start (opening_world p.nodes (first_map p))) same begins.stands) (λ one m. absurd m)
       (λ outcome m. placed outcome (subst (Among outcome) (sym leads.outcomes_are) (among_front outcome leads.own leads.rest m)))
       (subst (λ l. Makes on l [] start awaited last) leads.outcomes_are makes))
@@ -144,7 +145,7 @@ module _ {D : Type 0} (on : View D) (start last : World D) (begins : IsAtBeginni
   -- the step of this outcome was refused, and so the machine refuses one that the order asks for
   refuses_by : (order : Order) (made : Made) (fault : TapeFault) → FirstStep order sessions made → Grants plan order followed.now followed.next
       → (outcome : Outcome) → IsDenied fault outcome → made_of outcome ≡ made → (between : List Awaited) (mid : World D) → Came on outcome followed.between followed.mid between mid → ⊥
-  refuses_by order made fault first_step grants (Moved asked made_steps sum) (cause, denied, stops) is_made between mid (makes_order, left_is, sum_is) =
+  refuses_by order made fault first_step grants (Moved asked made_steps sum up) (cause, denied, stops) is_made between mid (makes_order, left_is, sum_is, up_is) =
       let r = is_refusal cause fault stops in
       let o = order_follows on plan asked made_steps followed.mid mid followed.known followed.next followed.stands makes_order in
       by order first_step grants (map made_seen made_steps) r.0 o.next o.makes (denied_alike asked cause r.0 r.1 made_steps denied)

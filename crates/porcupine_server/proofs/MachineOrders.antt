@@ -19,7 +19,8 @@ use Rattle.cluster_world.specs.Worlds.{state_of, life_of, seen_life, StandsFor}
 use Rattle.cluster_world.specs.Seen.{step_seen, outcome_seen}
 use Rattle.cluster_world.specs.Ended.{IsEnded}
 use Rattle.cluster_world.specs.Steps.{IsStep}
-use Rattle.cluster_world.specs.Outcomes.{StepMade, MakesSteps, IsPost, IsOfRegroup, AreOfRegroup, PostsAll, PushesTo, PushesAll, MakesOne, MakesOrder, has_failed, nodes_but}
+use Rattle.cluster_world.specs.Made.{StepMade, MakesSteps, IsPost, IsOfRegroup, AreOfRegroup, PostsAll, PushesTo, PushesAll, MakesOne, has_failed, nodes_but}
+use Rattle.cluster_world.specs.Outcomes.{MakesOrder}
 use Rattle.cluster_world.specs.declared.life.Life.{Life}
 use Rattle.cluster_world.specs.declared.world.World.{World}
 use Rattle.cluster_world.specs.declared.step.Step.{Step}
@@ -242,8 +243,8 @@ module _ {D : Type 0} (on : View D) (plan : Plan) where
   order_follows (order.Group node) steps old new of w stands makes = let s = one_step (step.Group node) tt steps old new of w stands makes in record { next = s.next; stands = s.stands; known = s.known; makes = s.makes }
   order_follows (order.Conclude node) steps old new of w stands makes = let s = one_step (step.Conclude node) tt steps old new of w stands makes in record { next = s.next; stands = s.stands; known = s.known; makes = s.makes }
   order_follows (order.Regroup node) steps old new of w stands makes =
-      let r = regroups node steps makes.0 in
-      let s = several steps r.1 old new of w stands makes.1 in
+      let r = regroups node steps makes.1.of in
+      let s = several steps r.1 old new of w stands makes.1.made in
       record { next = s.next; stands = s.stands; known = s.known; makes = (r.0, s.makes) }
   order_follows (order.Tick seconds) steps old new of w stands makes = let s = one_step (step.Tick seconds) tt steps old new of w stands makes in record { next = s.next; stands = s.stands; known = s.known; makes = s.makes }
   order_follows order.Sum steps old new of w stands (none, same) = record {

@@ -18,7 +18,7 @@ use Rattle.cluster_world.specs.Worlds.{state_of, plan_of, book_of, disks_of, dis
 use Rattle.cluster_world.specs.Steps.{IsStep, IsBlind, StepIsKnown}
 use Rattle.cluster_world.specs.Ended.{IsEnded}
 use Rattle.cluster_world.specs.Seen.{step_seen, outcome_seen}
-use Rattle.cluster_world.specs.Outcomes.{StepMade, MakesSteps, PostsAll, IsOfRegroup, AreOfRegroup, has_failed}
+use Rattle.cluster_world.specs.Made.{StepMade, MakesSteps, PostsAll, IsOfRegroup, AreOfRegroup, has_failed}
 use Rattle.cluster_world.specs.Regroups.{HasRegrouped}
 use Rattle.cluster_world.specs.declared.world.World.{World}
 use Rattle.cluster_world.specs.declared.step.Step.{Step}
@@ -157,8 +157,8 @@ module _ {D : Type 0} (on : View D) where
   flows_keep_world steps old new ready posts = kept old new ready (posts_stay steps old new posts)
 
   pub keeps_regroup : (n : ℕ) (result : Result Regroup StepFault) (old new : World D) → CanMakeSteps on.seen new → Regroups on n result old new → KeepsWorld on old new
-  keeps_regroup n result old new ready (inl made) =
-      kept old new ready (steps_stay made.steps old new (regroup_known (disks_tell on.seen old) (plan_of old).nodes n made.steps made.of) made.made)
+  keeps_regroup n result old new ready (inl (steps, made)) =
+      kept old new ready (steps_stay steps old new (regroup_known (disks_tell on.seen old) (plan_of old).nodes n steps made.of) made.made)
   keeps_regroup n result old new ready (inr (short, same)) = kept old new ready (stays_same old new same)
 
   pub opened_is_sound : OpenedIsSound on

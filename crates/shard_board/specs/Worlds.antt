@@ -12,7 +12,7 @@ use Rattle.cluster_world.specs.Worlds.{plan_of, book_of, disks_tell, CanMakeStep
 use Rattle.cluster_world.specs.Steps.{IsBlind}
 use Rattle.cluster_world.specs.Ended.{IsEnded}
 use Rattle.cluster_world.specs.Opens.{IsAtBeginning}
-use Rattle.cluster_world.specs.Outcomes.{StepMade, MakesSteps, PostsAll}
+use Rattle.cluster_world.specs.Made.{StepMade, MakesSteps, PostsAll}
 use Rattle.cluster_world.specs.declared.world.World.{World}
 
 -- It can make steps, and stands for a world of the machine that is sound and in which each ticket asks for one thing.

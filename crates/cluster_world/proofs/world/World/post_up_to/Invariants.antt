@@ -2,7 +2,7 @@ use Rattle.std.proofs.Common.{◌≡◌, ◌-◌, ◌≤◌, List}
 use Rattle.node_store.specs.Disks.{view_of}
 use Rattle.cluster_world.specs.Worlds.{state_of, CanMakeSteps}
 use Rattle.cluster_world.specs.Steps.{AreSettled}
-use Rattle.cluster_world.specs.Outcomes.{StepMade}
+use Rattle.cluster_world.specs.Made.{StepMade}
 use Rattle.cluster_world.specs.Regroups.{ArePosted}
 use Rattle.cluster_world.proofs.world.World.post_up_to.Given as goal
 
