@@ -97,7 +97,7 @@ led_to_at : (stop : Stop) (plan : Plan) (acts : List Act) (outcomes : List Outco
     → (front behind : List Act) (asked : ClusterOrder) (event : ClusterEvent) → acts ≡ front ++ MakesAct asked event ∷ behind → LedAt plan [] [] front (MakesAct asked event) outcomes
 led_to_at stop plan acts outcomes lacking extra to front behind asked event are = ⊎_elim
     (λ (found : (more : List Act) × (to.done ≡ front ++ MakesAct asked event ∷ more)).
-    let at = led_at plan [] [] front found.0 (MakesAct asked event) to.own (subst (λ (as : List Act). AreLed plan [] [] as to.own) found.1 to.led) in
+    let at = led_at plan [] [] front found.0 (MakesAct asked event) to.own (subst (λ (acts : List Act). AreLed plan [] [] acts to.own) found.1 to.led) in
     record {
       ahead = at.ahead;
       own = at.own;
@@ -227,5 +227,5 @@ second_stopped = MakesAct (order.Crash 2) (WentDown 2) ∷ []
 
 pub stopped_is_no_member : (plan : Plan) (epoch : EpochId) → plan.nodes ≡ 2 → NamesTheUp plan (second_stopped ++ MakesAct (order.Regroup 1) (FormedEpoch epoch (1 ∷ 2 ∷ [])) ∷ []) → ⊥
 stopped_is_no_member plan epoch two names =
-    let told : 1 ∷ 2 ∷ [] ≡ nodes_up (life_after second_stopped) plan.nodes = names second_stopped [] 1 epoch (1 ∷ 2 ∷ []) refl in
-    let never : 1 ∷ 2 ∷ [] ≡ 1 ∷ [] = told ∙ ap (nodes_up (life_after second_stopped)) two in cc
+    let told = names second_stopped [] 1 epoch (1 ∷ 2 ∷ []) refl in
+    let never : ◌≡◌ {A = List ℕ} (1 ∷ 2 ∷ []) (1 ∷ []) = told ∙ ap (nodes_up (life_after second_stopped)) two in cc

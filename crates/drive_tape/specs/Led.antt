@@ -99,10 +99,10 @@ Led plan been before (Makes asked event) outcomes = (steps : List StepMade) × (
 Led plan been before (Abandons k) outcomes = (asked : Call) × (ticket : Number) × (outcomes ≡ Abandoned k asked ticket ∷ [])
 
 -- so it is of acts, one after another
-abbrev pub AreLed : List Outcome → List Act → List Outcome → Type 0
-AreLed before [] outcomes = outcomes ≡ []
+abbrev pub AreLed : Plan → List Act → List Outcome → List Act → List Outcome → Type 0
+AreLed plan been before [] outcomes = outcomes ≡ []
 AreLed plan been before (act ∷ acts) outcomes =
-    (own : List Outcome) × (others : List Outcome) × (outcomes ≡ own ++ others) × Led before act own × AreLed (before ++ own) acts others
+    (own : List Outcome) × (others : List Outcome) × (outcomes ≡ own ++ others) × Led plan been before act own × AreLed plan (been ++ act ∷ []) (before ++ own) acts others
 
 -- The steps of a run line were denied: the last of them was refused so; or a regroup, before its first step, for want of room.
 abbrev pub AreDenied : ClusterOrder → StepFault → List StepMade → Type 0
