@@ -1,7 +1,6 @@
 pub mod Members
 pub mod Still
 pub mod Regrouped
-pub mod Settled
 pub mod Ordered
 pub mod Turned
 pub mod Said

@@ -200,8 +200,7 @@ impl Flying {
 
     /// The lowest number of a letter in flight.
     pub(crate) fn first(&self) -> Option<u64>
-        ensures first { result ≡ first_number self.now.flights }
-        ensures order { AreInOrder self.now }
+        ensures { result ≡ first_number self.now.flights }
     {
         self.flights.front().map(|flight| flight.number())
     }

@@ -9,7 +9,6 @@ pub mod Installing
 pub mod Listing
 pub mod Naming
 pub mod Nodes
-pub mod Owing
 pub mod PushReads
 pub mod Pushing
 pub mod Promising

@@ -6,4 +6,3 @@ pub mod Formed
 pub mod Noted
 pub mod Conclusions
 pub mod Calls
-pub mod Named

@@ -3,4 +3,3 @@ pub mod Hearing
 pub mod Rounds
 pub mod Entering
 pub mod Laws
-pub mod Naming

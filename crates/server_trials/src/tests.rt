@@ -17,7 +17,6 @@ mod regroups;
 mod replies;
 mod run_lines;
 mod serving;
-mod settles;
 mod store;
 mod three_nodes;
 mod word_forms;

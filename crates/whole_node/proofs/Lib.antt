@@ -19,5 +19,3 @@ mod Looked
 mod Opened
 mod Outlasted
 mod Settled
-pub mod Reported
-pub mod AtRest

@@ -7,4 +7,3 @@ pub mod Forming
 pub mod Hearing
 pub mod Grouping
 pub mod Reporting
-pub mod Settling
