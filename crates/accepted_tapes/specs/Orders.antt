@@ -57,15 +57,32 @@ pub record PushesAll (nodes : ℕ) (w : World) (node : ℕ) (steps : List MadeSt
   pub up : Works w node → PushesTo node (nodes_but node nodes 1) steps
   pub else_none : (Works w node → ⊥) → steps ≡ []
 
--- The step belongs to a regroup of this node: it opens or concludes its group, or posts a letter that does not stay in flight.
+-- each step is so
+abbrev pub AreOf : (MadeStep → Type 0) → List MadeStep → Type 0
+AreOf is_so [] = ⊤
+AreOf is_so (one ∷ more) = is_so one × AreOf is_so more
+
+-- the step posts a letter that does not stay in flight
+abbrev pub IsPost : MadeStep → Type 0
+IsPost one = (letter : ℕ) × (one.step ≡ Post letter false)
+
+-- The step belongs to a regroup of this node: it opens or concludes its group, or posts a letter.
 abbrev pub IsOfRegroup : ℕ → MadeStep → Type 0
-IsOfRegroup node one = (one.step ≡ Form node) ⊎ ((letter : ℕ) × (one.step ≡ Post letter false))
+IsOfRegroup node one = (one.step ≡ Form node) ⊎ IsPost one
 
 abbrev pub AreOfRegroup : ℕ → List MadeStep → Type 0
-AreOfRegroup node [] = ⊤
-AreOfRegroup node (one ∷ more) = IsOfRegroup node one × AreOfRegroup node more
+AreOfRegroup node steps = AreOf (IsOfRegroup node) steps
 
--- The steps that a run line asks for were made. A cluster may refuse to form an epoch for the sake of maps, which are not seen here.
+-- A node that is up reported to members of its epoch; one that is not did nothing. To whom it reports is not seen here.
+pub record ReportsAll (w : World) (node : ℕ) (steps : List MadeStep) : Type 0 where
+  pub are : AreOf (λ one. one.step ≡ Form node) steps
+  pub else_none : (Works w node → ⊥) → steps ≡ []
+
+-- The step belongs to a settle: a letter is posted, or a node pushes to another, or reports to one.
+abbrev pub IsOfSettle : MadeStep → Type 0
+IsOfSettle one = IsPost one ⊎ ((from : ℕ) × (to : ℕ) × (one.step ≡ PushTo from to)) ⊎ ((node : ℕ) × (one.step ≡ Form node))
+
+-- The steps that a run line asks for were made. A cluster may refuse to form an epoch, or to report, for the sake of maps, which are not seen here.
 abbrev pub MakesOrder : Plan → ClusterOrder → List MadeStep → World → World → Type 0
 MakesOrder plan (order.Crash node) steps old new = StepsOnce plan (Crash node) steps old new
 MakesOrder plan (order.Start node) steps old new = StepsOnce plan (Start node) steps old new
@@ -79,6 +96,9 @@ MakesOrder plan (order.Widen at user id to) steps old new = StepsOnce plan (Wide
 MakesOrder plan (order.Group node) steps old new = StepsOnce plan (Form node) steps old new
 MakesOrder plan (order.Conclude node) steps old new = StepsOnce plan (Form node) steps old new
 MakesOrder plan (order.Regroup node) steps old new = AreOfRegroup node steps × MakesAll plan true old steps new
+MakesOrder plan (order.Report node) steps old new = ReportsAll old node steps × MakesAll plan true old steps new
+MakesOrder plan order.Settle steps old new = AreOf IsOfSettle steps × MakesAll plan true old steps new
+MakesOrder plan (order.Maps user) steps old new = (steps ≡ []) × (new ≡ old)
 MakesOrder plan (order.Tick seconds) steps old new = StepsOnce plan (Tick seconds) steps old new
 MakesOrder plan order.Sum steps old new = (steps ≡ []) × (new ≡ old)
 

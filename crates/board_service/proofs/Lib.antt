@@ -1,6 +1,7 @@
 pub mod Members
 pub mod Still
 pub mod Regrouped
+pub mod Settled
 pub mod Ordered
 pub mod Turned
 pub mod Said

@@ -1,5 +1,5 @@
 -- What is ordered of a board adds nothing to its book that acknowledges or strikes, where each disk tells what it holds.
-use Rattle.std.proofs.Common.{inl, inr, ℕ}
+use Rattle.std.proofs.Common.{inl, inr, ℕ, List}
 use Rattle.std.specs.Prelude.{Result, Ok, Err}
 use Rattle.cluster_owes.specs.Outcomes.{IsIdleStep}
 use Rattle.node_store.specs.Disks.{View}
@@ -16,7 +16,7 @@ use Rattle.solo_desk.specs.Serving.{AddsTo}
 use Rattle.solo_desk.proofs.Stepping.{idle_adds}
 use Rattle.shard_board.specs.Deeds.{MakesOne}
 use Rattle.shard_board.specs.Orders.{Ordered, ordered_by, Obeys}
-use Rattle.shard_board.specs.Orders.Ordered.{OneStep, Regrouped, Counted}
+use Rattle.shard_board.specs.Orders.Ordered.{OneStep, Regrouped, Settled, Mapped, Counted}
 use Rattle.shard_board.specs.Worlds.{IsSoundWorld}
 use Rattle.shard_board.specs.declared.part.Part.{Part}
 use Rattle.shard_board.specs.declared.order.Order.{Order}
@@ -27,6 +27,7 @@ use Rattle.shard_board.proofs.Keeping.{all_tell}
 use Rattle.board_desk.proofs.Sound.{can_serve, same_world_adds}
 use Rattle.board_service.specs.Disks.{EachTells}
 use Rattle.board_service.proofs.Regrouped.{regroups_add}
+use Rattle.board_service.proofs.Settled.{settles_add}
 
 module _ {D : Type 0} (on : View D) (each : EachTells on.seen) where
   one_adds : (one : Step) (result : Result Said StepFault) (old new : World D) → IsEnded one → IsIdleStep (step_seen one) (outcome_seen result) → IsSoundWorld on old
@@ -39,20 +40,27 @@ module _ {D : Type 0} (on : View D) (each : EachTells on.seen) where
     step_adds : (one : Step) → IsEnded one → ((result : Result Said StepFault) → IsIdleStep (step_seen one) (outcome_seen result)) → (old : Part D F C) (came : Result Told StepFault) (new : Part D F C)
         → IsSoundWorld on old.world → Obeys on (OneStep one) old came new → AddsTo AreQuiet old.world new.world
     step_adds one ended idle old (Ok (told.Said said)) new sound made = one_adds one (Ok said) old.world new.world ended (idle (Ok said)) sound made
-    step_adds one ended idle old (Ok (told.Regrouped came)) new sound made = absurd made
-    step_adds one ended idle old (Ok (told.Sum sum)) new sound made = absurd made
+    step_adds one ended idle old (Ok other) new sound made = absurd made
     step_adds one ended idle old (Err why) new sound made = one_adds one (Err why) old.world new.world ended (idle (Err why)) sound made
 
     group_adds : (node : ℕ) (old : Part D F C) (came : Result Told StepFault) (new : Part D F C) → IsSoundWorld on old.world → Obeys on (Regrouped node) old came new → AddsTo AreQuiet old.world new.world
-    group_adds node old (Ok (told.Said said)) new sound made = absurd made
     group_adds node old (Ok (told.Regrouped came)) new sound made = regroups_add on node (Ok came) old.world new.world sound made
-    group_adds node old (Ok (told.Sum sum)) new sound made = absurd made
+    group_adds node old (Ok other) new sound made = absurd made
     group_adds node old (Err why) new sound made = regroups_add on node (Err why) old.world new.world sound made
 
+    settle_adds : (old : Part D F C) (came : Result Told StepFault) (new : Part D F C) → IsSoundWorld on old.world → Obeys on Settled old came new → AddsTo AreQuiet old.world new.world
+    settle_adds old (Ok (told.Settled came)) new sound made = settles_add on (Ok came) old.world new.world (all_tell on.seen each (disks_of old.world)) sound made
+    settle_adds old (Ok other) new sound made = absurd made
+    settle_adds old (Err why) new sound made = settles_add on (Err why) old.world new.world (all_tell on.seen each (disks_of old.world)) sound made
+
+    map_adds : (user : List ℕ) (old : Part D F C) (came : Result Told StepFault) (new : Part D F C) → Obeys on (Mapped user) old came new → AddsTo AreQuiet old.world new.world
+    map_adds user old (Ok (told.Mapped map)) new made = same_world_adds old.world new.world made.1
+    map_adds user old (Ok other) new made = absurd made
+    map_adds user old (Err why) new made = absurd made
+
     count_adds : (old : Part D F C) (came : Result Told StepFault) (new : Part D F C) → Obeys on Counted old came new → AddsTo AreQuiet old.world new.world
-    count_adds old (Ok (told.Said said)) new made = absurd made
-    count_adds old (Ok (told.Regrouped came)) new made = absurd made
     count_adds old (Ok (told.Sum sum)) new made = same_world_adds old.world new.world made.1
+    count_adds old (Ok other) new made = absurd made
     count_adds old (Err why) new made = absurd made
 
     pub orders_add : (ordered : Order) (old : Part D F C) (came : Result Told StepFault) (new : Part D F C) → IsSoundWorld on old.world → Obeys on (ordered_by ordered) old came new
@@ -63,4 +71,7 @@ module _ {D : Type 0} (on : View D) (each : EachTells on.seen) where
     orders_add (order.Push from to) old came new sound made = step_adds (step.Push from to) tt (λ result. tt) old came new sound made
     orders_add (order.Widen at user id to) old came new sound made = step_adds (step.Widen at user id to) tt (λ result. tt) old came new sound made
     orders_add (order.Regroup node) old came new sound made = group_adds node old came new sound made
+    orders_add (order.Report from to) old came new sound made = step_adds (step.Report from to) tt (λ result. tt) old came new sound made
+    orders_add order.Settle old came new sound made = settle_adds old came new sound made
+    orders_add (order.Maps user) old came new sound made = map_adds user old came new made
     orders_add order.Sum old came new sound made = count_adds old came new made

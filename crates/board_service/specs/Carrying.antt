@@ -6,6 +6,7 @@ use Rattle.call_tickets.specs.declared.desk.Posted.TheVariants.{Did, Quiet}
 use Rattle.call_tickets.specs.declared.desk.DeskFault.{DeskFault}
 use Rattle.node_store.specs.Disks.{View}
 use Rattle.cluster_world.specs.declared.fault.StepFault.{StepFault}
+use Rattle.cluster_world.specs.declared.step.Step.{Step}
 use Rattle.cluster_world.specs.declared.step.Step.TheVariants as step
 use Rattle.shard_board.specs.declared.board.Board.{Board}
 use Rattle.shard_board.specs.declared.board.BoardPass.{BoardPass}
@@ -22,23 +23,29 @@ has_posted (Ok Quiet) = false
 has_posted (Err why) = false
 
 module _ {D F C : Type 0} (on : View D) (board : Board D F C) where
-  -- one node sent to another what it owes, if it could
-  pub record HasPushed (old new : BoardPass D F C) : Type 0 where
+  -- this step was ordered, and made where it could be
+  pub record WasOrdered (one : Step) (old new : BoardPass D F C) : Type 0 where
+    pub told : Result Told StepFault
+    pub turn : IsTurnOf on (Obeys on (OneStep one)) board old new told
+
+  -- one node sent to another what it owes, and then told it, as its manager, what it has of users
+  pub record PushesAndReports (old new : BoardPass D F C) : Type 0 where
     pub from : ℕ
     pub to : ℕ
-    pub told : Result Told StepFault
-    pub turn : IsTurnOf on (Obeys on (OneStep (step.Push from to))) board old new told
+    pub mid : BoardPass D F C
+    pub pushed : WasOrdered (step.Push from to) old mid
+    pub reported : WasOrdered (step.Report from to) mid new
 
   -- it did, or nothing was done
   abbrev pub MayPush : BoardPass D F C → BoardPass D F C → Type 0
-  MayPush old new = HasPushed old new ⊎ (new ≡ old)
+  MayPush old new = PushesAndReports old new ⊎ (new ≡ old)
 
   -- where a letter was looked at, nothing else is done
   abbrev pub PushesAfter : Bool → BoardPass D F C → BoardPass D F C → Type 0
   PushesAfter true old new = new ≡ old
   PushesAfter false old new = MayPush old new
 
-  -- What fate decides of the letter of the lowest number was done; where there was none, a node may have sent what it owes.
+  -- What fate decides of the letter of the lowest number was done; where there was none, a node may have sent what it owes, and told what it has.
   pub record Carries (decides : F → ℕ → Luck → F → Type 0) (old : BoardPass D F C) (did : Bool) (new : BoardPass D F C) : Type 0 where
     pub mid : BoardPass D F C
     pub posted : Result Posted DeskFault

@@ -1,5 +1,6 @@
 -- What a line of the console comes to.
 use Rattle.std.specs.Prelude.{◌≡◌, ℕ, List, Option, Some, None, Result, codes}
+use Rattle.mail_model.specs.Plan.{Plan}
 use Rattle.node_store.specs.Disks.{View}
 use Rattle.cluster_world.specs.declared.fault.StepFault.{StepFault}
 use Rattle.shard_board.specs.declared.board.Board.{Board}
@@ -30,5 +31,5 @@ module _ {D F C : Type 0} (on : View D) (board : Board D F C) where
   HearsOrder (Some order) number old said new = OrdersBy order number (board_order order) old said new
 
   -- what is said of the line of this number
-  abbrev pub ObeysLine : BoardPass D F C → List ℕ → ℕ → List ℕ → BoardPass D F C → Type 0
-  ObeysLine old line number said new = HearsOrder (order_heard line) number old said new
+  abbrev pub ObeysLine : Plan → BoardPass D F C → List ℕ → ℕ → List ℕ → BoardPass D F C → Type 0
+  ObeysLine plan old line number said new = HearsOrder (order_heard plan line) number old said new

@@ -4,13 +4,14 @@ ghost use Rattle.std.specs.Fmt.{decimal};
 ghost use Rattle.std.specs.Option.{option_copied, option_map};
 ghost use Rattle.mail_model.specs.Lines.{ended};
 ghost use Rattle.object_model.specs.Sets.{nodes_in};
-ghost use Rattle.session_model.specs.Events.{node_words, sum_text};
+ghost use Rattle.session_model.specs.Events.{node_words, maps_text, sum_text};
+ghost use Rattle.cluster_world.specs.Outcomes.{map_seen};
 ghost use Rattle.cluster_world.specs.Sums.{sum_seen};
-ghost use Rattle.board_service.specs.ConsoleAnswers.{node_line, up_line, fault_line, refused_line, refusal_word, epoch_line, start_said, start_told, regroup_line, regroup_told, sum_told, order_told, answer_to};
+ghost use Rattle.board_service.specs.ConsoleAnswers.{node_line, up_line, fault_line, refused_line, refusal_word, epoch_line, start_said, start_told, regroup_line, regroup_told, settle_line, settle_told, map_line, map_told, sum_told, order_told, answer_to};
 
 use crate::orders::ConsoleOrder;
-use cluster_world::{BookSum, Regroup, Said, StepFault};
-use mail_base::{EpochId, NodeNo, NodeSet};
+use cluster_world::{BookSum, Regroup, Said, Settle, StepFault};
+use mail_base::{EpochId, Name, NodeNo, NodeSet};
 use shard_board::Told;
 use std::alloc::{AllocError, Global};
 
@@ -199,6 +200,8 @@ fn say_start_told(
     match told {
         Told::Said(said) => say_start(alloc, node, said, out),
         Told::Regrouped(_) => Ok(()),
+        Told::Settled(_) => Ok(()),
+        Told::Mapped(_) => Ok(()),
         Told::Sum(_) => Ok(()),
     }
 }
@@ -220,6 +223,98 @@ fn say_regroup_told(alloc: Global, told: &Told, out: &mut Vec<u8>) -> Result<(),
     match told {
         Told::Said(_) => Ok(()),
         Told::Regrouped(came) => say_regroup(alloc, came, out),
+        Told::Settled(_) => Ok(()),
+        Told::Mapped(_) => Ok(()),
+        Told::Sum(_) => Ok(()),
+    }
+}
+
+// `*0 settled`
+fn say_settled(alloc: Global, out: &mut Vec<u8>) -> Result<(), AllocError>
+    ensures { OnOk result (out.new.items ≡ out.old.items ++ ended (codes "*0 settled")) }
+{
+    let text = Vec::from_slice(alloc, b"*0 settled")?;
+    push_line(out, &text)
+}
+
+// `*0 not-all-up N`
+fn say_absent(alloc: Global, member: NodeNo, out: &mut Vec<u8>) -> Result<(), AllocError>
+    ensures { OnOk result (out.new.items ≡ out.old.items ++ ended (codes "*0 not-all-up " ++ decimal member)) }
+{
+    let text = behind_word(alloc, b"*0 not-all-up ", u64::from(member.number()))?;
+    push_line(out, &text)
+}
+
+// What is said of a settle.
+fn say_settle(alloc: Global, came: &Settle, out: &mut Vec<u8>) -> Result<(), AllocError>
+    ensures { OnOk result (out.new.items ≡ out.old.items ++ settle_line came.now) }
+{
+    match came {
+        Settle::Settled => say_settled(alloc, out),
+        Settle::NotAllUp(member) => say_absent(alloc, *member, out),
+        Settle::Fault(failed) => say_fault(alloc, *failed, out),
+    }
+}
+
+// The same of what was told.
+fn say_settle_told(alloc: Global, told: &Told, out: &mut Vec<u8>) -> Result<(), AllocError>
+    ensures { OnOk result (out.new.items ≡ out.old.items ++ settle_told told.now) }
+{
+    match told {
+        Told::Said(_) => Ok(()),
+        Told::Regrouped(_) => Ok(()),
+        Told::Settled(came) => say_settle(alloc, came, out),
+        Told::Mapped(_) => Ok(()),
+        Told::Sum(_) => Ok(()),
+    }
+}
+
+// ` at M: a b ..`
+fn push_told(
+    alloc: Global,
+    text: &mut Vec<u8>,
+    manager: NodeNo,
+    named: NodeSet,
+) -> Result<(), AllocError>
+    ensures { OnOk result (text.new.items ≡ text.old.items ++ codes " at " ++ decimal manager ++ codes ":" ++ node_words (nodes_in named 16)) }
+{
+    push_number(alloc, text, b" at ", u64::from(manager.number()))?;
+    text.extend_from_slice(b":")?;
+    push_members(alloc, text, named, 16)
+}
+
+// `*0 maps NAME at M: a b ..`, or `*0 maps NAME none`
+fn say_map(
+    alloc: Global,
+    user: &Name,
+    map: &Option<(NodeNo, NodeSet)>,
+    out: &mut Vec<u8>,
+) -> Result<(), AllocError>
+    ensures { OnOk result (out.new.items ≡ out.old.items ++ map_line user.now map.now) }
+{
+    let mut text = Vec::from_slice(alloc, b"*0 maps ")?;
+    text.extend_from_slice(user.octets())?;
+    match map {
+        Some((manager, named)) => push_told(alloc, &mut text, *manager, *named)?,
+        None => text.extend_from_slice(b" none")?,
+    }
+    push_line(out, &text)
+}
+
+// The same of what was told.
+fn say_map_told(
+    alloc: Global,
+    user: &Name,
+    told: &Told,
+    out: &mut Vec<u8>,
+) -> Result<(), AllocError>
+    ensures { OnOk result (out.new.items ≡ out.old.items ++ map_told user.now told.now) }
+{
+    match told {
+        Told::Said(_) => Ok(()),
+        Told::Regrouped(_) => Ok(()),
+        Told::Settled(_) => Ok(()),
+        Told::Mapped(map) => say_map(alloc, user, map, out),
         Told::Sum(_) => Ok(()),
     }
 }
@@ -231,6 +326,8 @@ fn say_sum_told(alloc: Global, told: &Told, out: &mut Vec<u8>) -> Result<(), All
     match told {
         Told::Said(_) => Ok(()),
         Told::Regrouped(_) => Ok(()),
+        Told::Settled(_) => Ok(()),
+        Told::Mapped(_) => Ok(()),
         Told::Sum(sum) => say_sum(alloc, sum, out),
     }
 }
@@ -238,17 +335,19 @@ fn say_sum_told(alloc: Global, told: &Told, out: &mut Vec<u8>) -> Result<(), All
 // What is said of an order that was done.
 fn say_told(
     alloc: Global,
-    order: ConsoleOrder,
+    order: &ConsoleOrder,
     told: &Told,
     out: &mut Vec<u8>,
 ) -> Result<(), AllocError>
-    ensures { OnOk result (out.new.items ≡ out.old.items ++ order_told order told.now) }
+    ensures { OnOk result (out.new.items ≡ out.old.items ++ order_told order.now told.now) }
 {
     match order {
-        ConsoleOrder::Crash(node) => say_node(alloc, node, b" down", out),
-        ConsoleOrder::Start(node) => say_start_told(alloc, node, told, out),
-        ConsoleOrder::Lose(node) => say_node(alloc, node, b" lost", out),
+        ConsoleOrder::Crash(node) => say_node(alloc, *node, b" down", out),
+        ConsoleOrder::Start(node) => say_start_told(alloc, *node, told, out),
+        ConsoleOrder::Lose(node) => say_node(alloc, *node, b" lost", out),
         ConsoleOrder::Group(_) => say_regroup_told(alloc, told, out),
+        ConsoleOrder::Settle => say_settle_told(alloc, told, out),
+        ConsoleOrder::Maps(user) => say_map_told(alloc, user, told, out),
         ConsoleOrder::Sum => say_sum_told(alloc, told, out),
     }
 }
@@ -261,11 +360,11 @@ fn say_told(
 pub(crate) fn say_answer(
     alloc: Global,
     number: u64,
-    order: ConsoleOrder,
+    order: &ConsoleOrder,
     came: &Result<Told, StepFault>,
     out: &mut Vec<u8>,
 ) -> Result<(), AllocError>
-    ensures { OnOk result ((said : List ℕ) × (answer_to number order came.now ≡ Some said) × (out.new.items ≡ out.old.items ++ said)) }
+    ensures { OnOk result ((said : List ℕ) × (answer_to number order.now came.now ≡ Some said) × (out.new.items ≡ out.old.items ++ said)) }
 {
     match came {
         Ok(told) => say_told(alloc, order, told, out),

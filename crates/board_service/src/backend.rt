@@ -49,7 +49,7 @@ impl<
 
     ghost carries = { λ backend old did new. Carries (view_of D.seen D.faults D.clock) backend.board.now F.decides old.board did new.board };
 
-    ghost obeys = { λ backend old line number said new. ObeysLine (view_of D.seen D.faults D.clock) backend.board.now old.board line number said new.board };
+    ghost obeys = { λ backend old line number said new. ObeysLine (view_of D.seen D.faults D.clock) backend.board.now backend.plan.now old.board line number said new.board };
 
     fn split(&self, pass: &mut ServicePass<D, F, C>, part: u32) -> ServicePass<D, F, C> {
         let board = self.board.split(&mut pass.board, part);
@@ -108,6 +108,7 @@ impl<
             self.rt,
             alloc,
             self.board,
+            self.plan,
             &mut pass.board,
             line,
             number,

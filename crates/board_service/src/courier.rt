@@ -1,10 +1,11 @@
-//! Who carries letters at a board, and has nodes send what they owe.
+//! Who carries letters at a board, and has nodes send what they owe and tell what they have.
 ghost use Rattle.std.specs.Prelude.{◌≡◌};
 ghost use Rattle.node_store.specs.Disks.{view_of};
+ghost use Rattle.cluster_world.specs.declared.step.Step.TheVariants.{Push, Report};
 ghost use Rattle.shard_board.specs.Boards.{IsPassOf, IsTurnOf};
 ghost use Rattle.shard_board.specs.Posts.{PostsOne};
 ghost use Rattle.board_service.specs.Passes.{GoesStill};
-ghost use Rattle.board_service.specs.Carrying.{has_posted, HasPushed, MayPush, PushesAfter, Carries};
+ghost use Rattle.board_service.specs.Carrying.{has_posted, WasOrdered, PushesAndReports, MayPush, PushesAfter, Carries};
 
 use call_tickets::{DeskFault, Posted};
 use io_edge::{Clock, Disk, Fate};
@@ -50,9 +51,42 @@ fn push<R: Wait, D: Disk, F, C>(
 )
     requires pass { IsPassOf (view_of D.seen D.faults D.clock) board.now pass.old }
     ensures goes { GoesStill (view_of D.seen D.faults D.clock) board.now pass.old pass.new }
-    ensures pushed { HasPushed (view_of D.seen D.faults D.clock) board.now pass.old pass.new }
+    ensures pushed { WasOrdered (view_of D.seen D.faults D.clock) board.now (Push from to) pass.old pass.new }
 {
     let _told = board.console(rt, alloc, pass, Order::Push { from, to });
+}
+
+// A node tells another, as its manager, what it has of users.
+fn report<R: Wait, D: Disk, F, C>(
+    rt: &R,
+    alloc: Global,
+    board: &Board<D, F, C>,
+    pass: &mut BoardPass<D, F, C>,
+    from: NodeNo,
+    to: NodeNo,
+)
+    requires pass { IsPassOf (view_of D.seen D.faults D.clock) board.now pass.old }
+    ensures goes { GoesStill (view_of D.seen D.faults D.clock) board.now pass.old pass.new }
+    ensures reported { WasOrdered (view_of D.seen D.faults D.clock) board.now (Report from to) pass.old pass.new }
+{
+    let _told = board.console(rt, alloc, pass, Order::Report { from, to });
+}
+
+// Both, one after the other.
+fn push_and_report<R: Wait, D: Disk, F, C>(
+    rt: &R,
+    alloc: Global,
+    board: &Board<D, F, C>,
+    pass: &mut BoardPass<D, F, C>,
+    from: NodeNo,
+    to: NodeNo,
+)
+    requires pass { IsPassOf (view_of D.seen D.faults D.clock) board.now pass.old }
+    ensures goes { GoesStill (view_of D.seen D.faults D.clock) board.now pass.old pass.new }
+    ensures told { PushesAndReports (view_of D.seen D.faults D.clock) board.now pass.old pass.new }
+{
+    push(rt, alloc, board, pass, from, to);
+    report(rt, alloc, board, pass, from, to);
 }
 
 // The node at this place in the round of so many.
@@ -75,7 +109,7 @@ fn pair_at(nodes: u8, place: u64) -> Option<(NodeNo, NodeNo)> {
     Some((from, to))
 }
 
-// The pair at this place in the round has its push.
+// The pair at this place in the round has its push and its report.
 fn push_at<R: Wait, D: Disk, F, C>(
     rt: &R,
     alloc: Global,
@@ -89,12 +123,12 @@ fn push_at<R: Wait, D: Disk, F, C>(
     ensures push { MayPush (view_of D.seen D.faults D.clock) board.now pass.old pass.new }
 {
     match pair_at(nodes, place) {
-        Some((from, to)) => push(rt, alloc, board, pass, from, to),
+        Some((from, to)) => push_and_report(rt, alloc, board, pass, from, to),
         None => {}
     }
 }
 
-// The next pair in the round has its push.
+// The next pair in the round has its push and its report.
 fn push_next<R: Wait, D: Disk, F, C>(
     rt: &R,
     alloc: Global,
@@ -132,8 +166,8 @@ fn push_after<R: Wait, D: Disk, F, C>(
 }
 
 /// Does what fate decides of the letter of the lowest number in flight. Where there is none, the next of all pairs of nodes has its
-/// push, which is no reason to go on: a node that stays down would be sent the same again and again. Answers whether a letter was
-/// looked at.
+/// push and its report, which is no reason to go on: a node that stays down would be sent the same again and again. Answers whether
+/// a letter was looked at.
 pub(crate) fn carry_one<R: Wait, D: Disk, F: Fate, C: Clock>(
     rt: &R,
     alloc: Global,

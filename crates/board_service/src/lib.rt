@@ -12,8 +12,9 @@
 //! - `client`: a connection is one call of `serve_smtp` or `serve_pop`, over the board as a desk, in the name of its thread's
 //!   pass.
 //! - `courier`: one letter is posted as fate decides, after the clock was set. Where none is in flight, one node sends to another
-//!   what it owes: the next of all pairs, in a round. To a node that is no member of its epoch it sends nothing. That is no reason
-//!   to go on, so a service ends though a node stays down. What such a push put in flight just before the end stays there.
+//!   what it owes, and then tells it, as its manager, what it has of users: the next of all pairs, in a round. To a node that is no
+//!   member of its epoch it sends nothing. That is no reason to go on, so a service ends though a node stays down. What such a push
+//!   or report put in flight just before the end stays there.
 //! - `orders`, `answers`, `obey`: a line of the console is one turn of the board.
 //!
 //! | Line | Does | Answer |
@@ -22,12 +23,14 @@
 //! | `start n` | a node that is down starts | `*0 node n up b`, or `*0 fault n` where its disk failed |
 //! | `lose n` | a node loses its disk for good | `*0 node n lost` |
 //! | `group n` | a node regroups: it opens a group, asks all others and concludes, in one turn | `*0 epoch c.n members a b ..`, or `*0 fault m` where a disk failed |
+//! | `settle` | the latest epoch is brought to rest: all letters are posted, and its members push and report until nothing is due, in one turn | `*0 settled`, or `*0 not-all-up n` where that member is not live, or `*0 fault n` |
+//! | `maps NAME` | the user's manager in the latest epoch is asked which nodes have mail of the user | `*0 maps NAME at m: a b ..`, or `*0 maps NAME none` where there is no epoch or the manager is not live |
 //! | `sum` | the entries of the book are counted | `*0 sum acked a struck s dropped d lost l` |
 //!
 //! A node that was started has no epoch, and takes no mail until a regroup lets it in. Whoever comes to the board meanwhile waits,
 //! and finds the epoch that was there before or the one that was formed.
 //!
-//! A line of another form is answered `! line N BadLine`, a node that no plan has `! line N NoSuchNode`, and an order that the
+//! A line of another form, or one that names a user whom the plan has not, is answered `! line N BadLine`, a node that no plan has `! line N NoSuchNode`, and an order that the
 //! cluster refuses `! line N NAME` with the name of the refusal. One CR at the end of a line is dropped. `stop` is a line of
 //! `mail_service`.
 //!
@@ -35,7 +38,8 @@
 //!
 //! `specs/Served.antt` says what the world is that comes back: it has its plan and can make steps, and its book is shared out among
 //! what it had before and what the pages of each pass have. As long as each of these pages is known, the world is sound. A start,
-//! and a push among several nodes, have a page that is known only where the disks tell what they hold; all others are known. So
+//! and a push or a settle among several nodes, have a page that is known only where the disks tell what they hold; all others are
+//! known. So
 //! over disks of which each tells, a world that was served is sound: that is the law `served_is_sound`.
 //!
 //! Each connection is said by `ServesSmtp` or `ServesPop` of `session_gate` (`specs/Visits.antt`). Where the disks tell what they

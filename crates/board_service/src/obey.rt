@@ -9,6 +9,7 @@ ghost use Rattle.board_service.specs.Passes.{GoesStill};
 use crate::answers::{say_answer, say_refused};
 use crate::orders::{ConsoleOrder, board_order, order_heard};
 use io_edge::Disk;
+use mail_base::Plan;
 use shard_board::{Board, BoardPass, Order};
 use std::alloc::{AllocError, Global};
 use std::sync::Wait;
@@ -20,13 +21,13 @@ fn do_order<R: Wait, D: Disk, F, C>(
     board: &Board<D, F, C>,
     pass: &mut BoardPass<D, F, C>,
     number: u64,
-    order: ConsoleOrder,
+    order: &ConsoleOrder,
     ordered: Order,
     out: &mut Vec<u8>,
 ) -> Result<(), AllocError>
     requires pass { IsPassOf (view_of D.seen D.faults D.clock) board.now pass.old }
     ensures goes { GoesStill (view_of D.seen D.faults D.clock) board.now pass.old pass.new }
-    ensures ordered { OnOk result ((said : List ℕ) × (out.new.items ≡ out.old.items ++ said) × IsOrdered (view_of D.seen D.faults D.clock) board.now order number ordered pass.old said pass.new) }
+    ensures ordered { OnOk result ((said : List ℕ) × (out.new.items ≡ out.old.items ++ said) × IsOrdered (view_of D.seen D.faults D.clock) board.now order.now number ordered pass.old said pass.new) }
 {
     let came = board.console(rt, alloc, pass, ordered);
     say_answer(alloc, number, order, &came, out)
@@ -39,13 +40,13 @@ fn obey_order<R: Wait, D: Disk, F, C>(
     board: &Board<D, F, C>,
     pass: &mut BoardPass<D, F, C>,
     number: u64,
-    order: ConsoleOrder,
+    order: &ConsoleOrder,
     ordered: Option<Order>,
     out: &mut Vec<u8>,
 ) -> Result<(), AllocError>
     requires pass { IsPassOf (view_of D.seen D.faults D.clock) board.now pass.old }
     ensures goes { GoesStill (view_of D.seen D.faults D.clock) board.now pass.old pass.new }
-    ensures orders { OnOk result ((said : List ℕ) × (out.new.items ≡ out.old.items ++ said) × OrdersBy (view_of D.seen D.faults D.clock) board.now order number ordered pass.old said pass.new) }
+    ensures orders { OnOk result ((said : List ℕ) × (out.new.items ≡ out.old.items ++ said) × OrdersBy (view_of D.seen D.faults D.clock) board.now order.now number ordered pass.old said pass.new) }
 {
     match ordered {
         Some(ordered) => do_order(rt, alloc, board, pass, number, order, ordered, out),
@@ -69,14 +70,15 @@ fn obey_heard<R: Wait, D: Disk, F, C>(
 {
     match heard {
         Some(order) => {
-            let ordered = board_order(order);
-            obey_order(rt, alloc, board, pass, number, order, ordered, out)
+            let ordered = board_order(&order)?;
+            obey_order(rt, alloc, board, pass, number, &order, ordered, out)
         }
         None => say_refused(alloc, number, b"BadLine", out),
     }
 }
 
-/// Does what the line of this number orders, in one turn, and appends what is said of it. The line is without its LF.
+/// Does what the line of this number orders, in one turn, and appends what is said of it. The line is without its LF. Users are
+/// those of the plan.
 ///
 /// # Errors
 ///
@@ -85,6 +87,7 @@ pub(crate) fn obey_line<R: Wait, D: Disk, F, C>(
     rt: &R,
     alloc: Global,
     board: &Board<D, F, C>,
+    plan: &Plan,
     pass: &mut BoardPass<D, F, C>,
     line: &[u8],
     number: u64,
@@ -92,8 +95,8 @@ pub(crate) fn obey_line<R: Wait, D: Disk, F, C>(
 ) -> Result<(), AllocError>
     requires pass { IsPassOf (view_of D.seen D.faults D.clock) board.now pass.old }
     ensures goes { GoesStill (view_of D.seen D.faults D.clock) board.now pass.old pass.new }
-    ensures obeys { OnOk result ((said : List ℕ) × (out.new.items ≡ out.old.items ++ said) × ObeysLine (view_of D.seen D.faults D.clock) board.now pass.old line.now number said pass.new) }
+    ensures obeys { OnOk result ((said : List ℕ) × (out.new.items ≡ out.old.items ++ said) × ObeysLine (view_of D.seen D.faults D.clock) board.now plan.now pass.old line.now number said pass.new) }
 {
-    let heard = order_heard(line);
+    let heard = order_heard(alloc, plan, line)?;
     obey_heard(rt, alloc, board, pass, number, heard, out)
 }

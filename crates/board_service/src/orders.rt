@@ -1,17 +1,18 @@
 //! What the lines of the console order.
-ghost use Rattle.std.specs.Prelude.{◌≡◌, codes, option_and_then};
+ghost use Rattle.std.specs.Prelude.{◌≡◌, codes, option_and_then, IfOk};
 ghost use Rattle.mail_model.specs.Tape.{strip};
-ghost use Rattle.board_service.specs.ConsoleLines.{numbered, sum_line, order_in, order_heard, node_of, board_order};
-ghost use Rattle.board_service.specs.declared.orders.ConsoleOrder.TheVariants.{Crash, Start, Lose, Group};
+ghost use Rattle.board_service.specs.ConsoleLines.{numbered, bare, maps_line, order_in, is_known, order_heard, node_of, board_order};
+ghost use Rattle.board_service.specs.declared.orders.ConsoleOrder.TheVariants.{Crash, Start, Lose, Group, Settle, Sum};
 
 use line_words::number;
-use mail_base::NodeNo;
+use mail_base::{Name, NodeNo, Plan};
 use shard_board::Order;
+use std::alloc::{AllocError, Global};
 use tape_lines::{strip, without_cr};
 
 /// What a line of the console orders. A number is as the line gives it, below 2^64: whether there is such a node is not asked
 /// here.
-#[derive(Clone, Copy, Debug, PartialEq, Eq)]
+#[derive(Debug, Drop)]
 pub(crate) enum ConsoleOrder {
     /// A node stops. What is on its disk stays.
     Crash(u64),
@@ -21,6 +22,10 @@ pub(crate) enum ConsoleOrder {
     Lose(u64),
     /// A node opens a group, asks all others and concludes.
     Group(u64),
+    /// The latest epoch is brought to rest.
+    Settle,
+    /// It is asked which nodes have mail of this user.
+    Maps(Name),
     /// The entries of the book are counted.
     Sum,
 }
@@ -53,8 +58,18 @@ fn groups(line: &[u8]) -> Option<ConsoleOrder>
     Some(ConsoleOrder::Group(node))
 }
 
+fn settles(line: &[u8]) -> Option<ConsoleOrder>
+    ensures { result ≡ option_and_then (bare Settle) (strip (codes "settle") line.now) }
+{
+    let rest = strip(b"settle", line)?;
+    if !rest.is_empty() {
+        return None;
+    }
+    Some(ConsoleOrder::Settle)
+}
+
 fn sums(line: &[u8]) -> Option<ConsoleOrder>
-    ensures { result ≡ option_and_then sum_line (strip (codes "sum") line.now) }
+    ensures { result ≡ option_and_then (bare Sum) (strip (codes "sum") line.now) }
 {
     let rest = strip(b"sum", line)?;
     if !rest.is_empty() {
@@ -63,30 +78,84 @@ fn sums(line: &[u8]) -> Option<ConsoleOrder>
     Some(ConsoleOrder::Sum)
 }
 
-// The order that the line spells.
-fn order_in(line: &[u8]) -> Option<ConsoleOrder>
-    ensures { result ≡ order_in line.now }
+fn maps_of(alloc: Global, rest: &[u8]) -> Result<Option<ConsoleOrder>, AllocError>
+    ensures { IfOk result (λ order. order ≡ maps_line rest.now) }
 {
-    if let Some(order) = crashes(line) {
-        return Some(order);
-    }
-    if let Some(order) = starts(line) {
-        return Some(order);
-    }
-    if let Some(order) = loses(line) {
-        return Some(order);
-    }
-    if let Some(order) = groups(line) {
-        return Some(order);
-    }
-    sums(line)
+    let Some(user) = Name::spelt(alloc, rest)? else {
+        return Ok(None);
+    };
+    Ok(Some(ConsoleOrder::Maps(user)))
 }
 
-/// What the line orders, given without its LF; nothing where it is not known. A CR at its end is dropped.
-pub(crate) fn order_heard(raw: &[u8]) -> Option<ConsoleOrder>
-    ensures { result ≡ order_heard raw.now }
+fn asks_maps(alloc: Global, line: &[u8]) -> Result<Option<ConsoleOrder>, AllocError>
+    ensures { IfOk result (λ order. order ≡ option_and_then maps_line (strip (codes "maps ") line.now)) }
 {
-    order_in(without_cr(raw))
+    match strip(b"maps ", line) {
+        Some(rest) => maps_of(alloc, rest),
+        None => Ok(None),
+    }
+}
+
+// The order that the line spells.
+fn order_in(alloc: Global, line: &[u8]) -> Result<Option<ConsoleOrder>, AllocError>
+    ensures { IfOk result (λ order. order ≡ order_in line.now) }
+{
+    if let Some(order) = crashes(line) {
+        return Ok(Some(order));
+    }
+    if let Some(order) = starts(line) {
+        return Ok(Some(order));
+    }
+    if let Some(order) = loses(line) {
+        return Ok(Some(order));
+    }
+    if let Some(order) = groups(line) {
+        return Ok(Some(order));
+    }
+    if let Some(order) = settles(line) {
+        return Ok(Some(order));
+    }
+    if let Some(order) = sums(line) {
+        return Ok(Some(order));
+    }
+    asks_maps(alloc, line)
+}
+
+// Whether the user whose map is asked for is one of the plan.
+fn is_known(plan: &Plan, order: &ConsoleOrder) -> bool
+    ensures { result ≡ is_known plan.now order.now }
+{
+    match order {
+        ConsoleOrder::Maps(user) => plan.users.has(user),
+        ConsoleOrder::Crash(_)
+        | ConsoleOrder::Start(_)
+        | ConsoleOrder::Lose(_)
+        | ConsoleOrder::Group(_)
+        | ConsoleOrder::Settle
+        | ConsoleOrder::Sum => true,
+    }
+}
+
+/// What the line orders, given without its LF; nothing where it is not known, or asks for the map of a user whom the plan has not.
+/// A CR at its end is dropped.
+///
+/// # Errors
+///
+/// Out of memory alone, for the name of `maps`.
+pub(crate) fn order_heard(
+    alloc: Global,
+    plan: &Plan,
+    raw: &[u8],
+) -> Result<Option<ConsoleOrder>, AllocError>
+    ensures { IfOk result (λ order. order ≡ order_heard plan.now raw.now) }
+{
+    let Some(order) = order_in(alloc, without_cr(raw))? else {
+        return Ok(None);
+    };
+    if !is_known(plan, &order) {
+        return Ok(None);
+    }
+    Ok(Some(order))
 }
 
 // The node of this number. No plan has others.
@@ -100,14 +169,20 @@ fn node_of(number: u64) -> Option<NodeNo>
 }
 
 /// What a board is to do; nothing where no plan has the node.
-pub(crate) fn board_order(order: ConsoleOrder) -> Option<Order>
-    ensures { result ≡ board_order order }
+///
+/// # Errors
+///
+/// Out of memory alone, for the name of `maps`.
+pub(crate) fn board_order(order: &ConsoleOrder) -> Result<Option<Order>, AllocError>
+    ensures { IfOk result (λ ordered. ordered ≡ board_order order.now) }
 {
     match order {
-        ConsoleOrder::Crash(number) => Some(Order::Crash(node_of(number)?)),
-        ConsoleOrder::Start(number) => Some(Order::Start(node_of(number)?)),
-        ConsoleOrder::Lose(number) => Some(Order::Lose(node_of(number)?)),
-        ConsoleOrder::Group(number) => Some(Order::Regroup(node_of(number)?)),
-        ConsoleOrder::Sum => Some(Order::Sum),
+        ConsoleOrder::Crash(number) => Ok(node_of(*number).map(|node| Order::Crash(node))),
+        ConsoleOrder::Start(number) => Ok(node_of(*number).map(|node| Order::Start(node))),
+        ConsoleOrder::Lose(number) => Ok(node_of(*number).map(|node| Order::Lose(node))),
+        ConsoleOrder::Group(number) => Ok(node_of(*number).map(|node| Order::Regroup(node))),
+        ConsoleOrder::Settle => Ok(Some(Order::Settle)),
+        ConsoleOrder::Maps(user) => Ok(Some(Order::Maps(user.copy()?))),
+        ConsoleOrder::Sum => Ok(Some(Order::Sum)),
     }
 }

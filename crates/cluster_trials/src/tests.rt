@@ -9,14 +9,17 @@ mod groups;
 mod installs;
 mod journals;
 mod orders;
+mod settles;
 mod steps;
 mod telling;
 
 use crate::open_fresh;
 use call_tickets::{Answer, Ask, Call};
-use cluster_world::{OpenFault, Regroup, Said, Step, StepFault, World};
+use cluster_world::{OpenFault, Regroup, Said, Settle, Step, StepFault, World};
 use io_edge::Disk;
-use mail_base::{Deliver, MsgId, Name, Names, NodeNo, Octets, Plan, Secret, Ticket, Users};
+use mail_base::{
+    Deliver, MsgId, Name, Names, NodeNo, NodeSet, Octets, Plan, Secret, Ticket, Users,
+};
 use node_core::Why;
 use node_disk::MemoryDisk;
 use std::alloc::{AllocError, Global};
@@ -159,6 +162,7 @@ fn step_of(alloc: Global, what: u8, first: u8, second: u8) -> Result<Step, Alloc
         },
         b'g' => Step::Group { node: one },
         b'c' => Step::Conclude { node: one },
+        b'r' => Step::Report { from: one, to: two },
         b'C' => Step::Crash { node: one },
         b'S' => Step::Start { node: one },
         _ => Step::Lose { node: one },
@@ -254,7 +258,36 @@ fn told_regroup(came: &Result<Regroup, StepFault>) -> [u8; 2] {
     }
 }
 
-/// Makes the step that three letters tell, or the regroup, and tells what came of it.
+/// What came of a settle, in two letters.
+fn told_settle(came: &Result<Settle, StepFault>) -> [u8; 2] {
+    match came {
+        Ok(Settle::Settled) => *b"st",
+        Ok(Settle::NotAllUp(node)) => [b'-', digit(u64::from(node.number()))],
+        Ok(Settle::Fault(node)) => [b'!', digit(u64::from(node.number()))],
+        Err(fault) => told_fault(*fault),
+    }
+}
+
+/// Who manages ann, and the set of the nodes that it names.
+fn told_maps(told: Option<(NodeNo, NodeSet)>) -> [u8; 2] {
+    match told {
+        Some((manager, named)) => [
+            digit(u64::from(manager.number())),
+            digit(u64::from(named.mask())),
+        ],
+        None => *b"no",
+    }
+}
+
+/// The node of which something is due.
+fn told_due(due: Option<NodeNo>) -> [u8; 2] {
+    match due {
+        Some(node) => [b'u', digit(u64::from(node.number()))],
+        None => *b"--",
+    }
+}
+
+/// Makes the step that three letters tell, a regroup or a settle, and tells what came of it; or it tells of maps.
 fn make<D: Disk>(
     alloc: Global,
     world: &mut World<D>,
@@ -267,6 +300,15 @@ fn make<D: Disk>(
 {
     if what == b'R' {
         return Ok(told_regroup(&world.regroup(alloc, node(count(first)))));
+    }
+    if what == b'Z' {
+        return Ok(told_settle(&world.settle(alloc)));
+    }
+    if what == b'm' {
+        return Ok(told_maps(world.maps(&ann(alloc)?)));
+    }
+    if what == b'u' {
+        return Ok(told_due(world.due()));
     }
     let step = step_of(alloc, what, first, second)?;
     Ok(told(&world.step(alloc, step)))

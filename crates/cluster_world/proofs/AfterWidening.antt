@@ -41,7 +41,7 @@ use Rattle.cluster_world.specs.declared.life.Life.{Life}
 use Rattle.cluster_world.specs.declared.life.Life.TheVariants.{Up, Down, Lost}
 use Rattle.cluster_world.specs.declared.nodes.Nodes.{Nodes}
 use Rattle.cluster_world.specs.declared.step.Step.{Step}
-use Rattle.cluster_world.specs.declared.step.Step.TheVariants.{Begin, Ask, GiveUp, Post, Drop, Push, Widen, Group, Conclude, Crash, Start, Lose, Tick}
+use Rattle.cluster_world.specs.declared.step.Step.TheVariants.{Begin, Ask, GiveUp, Post, Drop, Push, Widen, Group, Conclude, Report, Crash, Start, Lose, Tick}
 use Rattle.cluster_world.specs.declared.step.Said.TheVariants.{Faulted}
 use Rattle.cluster_world.specs.declared.fault.StepFault.TheVariants as fault
 use Rattle.cluster_world.proofs.Worked.{did_turned, cut_down, if_told, passed}
@@ -83,6 +83,7 @@ Works (Push from to) = ⊤
 Works (Widen at user id to) = ⊤
 Works (Group node) = ⊤
 Works (Conclude node) = ⊤
+Works (Report from to) = ⊤
 Works step = ⊥
 
 pub up_of : (s : Step) (o : Option Life) → Works s → life_refusal s (seen_life o) ≡ None → (node : WholeNode) × (o ≡ Some (Up node))
@@ -106,6 +107,10 @@ up_of (Conclude node) None works e = absurd (let never : Some fault.NodeLost ≡
 up_of (Conclude node) (Some (Up here)) works e = (here, refl)
 up_of (Conclude node) (Some Down) works e = absurd (let never : Some fault.NodeDown ≡ None = e in cc)
 up_of (Conclude node) (Some Lost) works e = absurd (let never : Some fault.NodeLost ≡ None = e in cc)
+up_of (Report from to) None works e = absurd (let never : Some fault.NodeLost ≡ None = e in cc)
+up_of (Report from to) (Some (Up here)) works e = (here, refl)
+up_of (Report from to) (Some Down) works e = absurd (let never : Some fault.NodeDown ≡ None = e in cc)
+up_of (Report from to) (Some Lost) works e = absurd (let never : Some fault.NodeLost ≡ None = e in cc)
 up_of (Ask ticket) o works e = absurd works
 up_of (GiveUp ticket) o works e = absurd works
 up_of (Post letter keep) o works e = absurd works

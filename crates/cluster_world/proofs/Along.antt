@@ -5,7 +5,7 @@ use Rattle.node_store.specs.Disks.{View}
 use Rattle.cluster_world.specs.Steps.{IsStep}
 use Rattle.cluster_world.specs.Made.{StepMade, MakesSteps}
 use Rattle.cluster_world.specs.Outcomes.{Outcome, Awaited, Came, Makes}
-use Rattle.cluster_world.specs.Outcomes.Outcome.{Began, Refused, Fell, Broke, Answers, StillPending, Unanswered, GaveUp, Abandoned, KeptUp, Left, Moved}
+use Rattle.cluster_world.specs.Outcomes.Outcome.{Began, Refused, Fell, Broke, Answers, StillPending, Unanswered, GaveUp, Abandoned, KeptUp, Left, Moved, Settling, Mapped}
 use Rattle.cluster_world.proofs.Ordered.{order_makes}
 use Rattle.cluster_world.specs.declared.world.World.{World}
 use Rattle.cluster_world.specs.declared.step.Step.{Step}
@@ -31,6 +31,8 @@ module _ {D : Type 0} (on : View D) (P : World D → World D → Type 0) (same :
   along_came (KeptUp k ticket why) awaited left old new came = one _ _ old new came.2
   along_came (Left k node user) awaited left old new came = one _ _ old new came.3
   along_came (Moved order steps sum up) awaited left old new came = along_steps steps old new (order_makes on order steps old new came.0)
+  along_came (Settling result steps) awaited left old new (makes, are, left_is) = along_steps steps old new (subst (λ (l : List StepMade). MakesSteps on l old new) are makes.made)
+  along_came (Mapped user told) awaited left old new came = subst (λ (w : World D). P old w) (sym came.2) (same old)
 
   pub along : (outcomes : List Outcome) (awaited left : List Awaited) (old new : World D) → Makes on outcomes awaited old left new → P old new
   along [] awaited left old new makes = subst (λ (w : World D). P old w) (sym makes.1) (same old)

@@ -11,7 +11,7 @@ use Rattle.cluster_world.specs.Steps.{IsStep}
 use Rattle.cluster_world.specs.Made.{StepMade, MakesSteps}
 use Rattle.cluster_world.specs.Outcomes.{Outcome, Awaited, Came, Makes}
 use Rattle.cluster_world.specs.Chains.{MakesMore, StepsAreCounted, PlanStays, LaterAfter, steps_in, all_steps_in}
-use Rattle.cluster_world.specs.Outcomes.Outcome.{Began, Refused, Fell, Broke, Answers, StillPending, Unanswered, GaveUp, Abandoned, KeptUp, Left, Moved}
+use Rattle.cluster_world.specs.Outcomes.Outcome.{Began, Refused, Fell, Broke, Answers, StillPending, Unanswered, GaveUp, Abandoned, KeptUp, Left, Moved, Settling, Mapped}
 use Rattle.cluster_world.proofs.Ordered.{order_makes}
 use Rattle.cluster_world.specs.declared.world.World.{World}
 use Rattle.cluster_world.specs.declared.step.Step.{Step}
@@ -131,6 +131,9 @@ module _ {D : Type 0} (on : View D) where
   counts_came (KeptUp k ticket why) awaited left old new within came = came.2.count
   counts_came (Left k node user) awaited left old new within came = came.3.count
   counts_came (Moved order steps sum up) awaited left old new within came = counts_steps steps old new within (order_makes on order steps old new came.0)
+  counts_came (Settling result steps) awaited left old new within (makes, are, left_is) =
+      counts_steps steps old new within (subst (λ (l : List StepMade). MakesSteps on l old new) are makes.made)
+  counts_came (Mapped user told) awaited left old new within came = counts_none old new within came.2
 
   counts : (outcomes : List Outcome) (awaited left : List Awaited) (old new : World D) → steps_of old ≤ 18446744073709551615 → Makes on outcomes awaited old left new → Counts (all_steps_in outcomes) old new
   counts [] awaited left old new within makes = counts_none old new within makes.1

@@ -1,19 +1,21 @@
 -- Letters that were posted, one after another.
-use Rattle.std.proofs.Common.{◌≡◌, ℕ, Bool, true, false, List, [], ◌∷◌, ◌++◌, Option, Some, None, Result, Ok, Err, refl, sym, subst, append_assoc}
+use Rattle.std.proofs.Common.{◌≡◌, inl, inr, ℕ, ◌+◌, ◌≤◌, ◌<◌, Bool, true, false, List, [], ◌∷◌, ◌++◌, Option, Some, None, Result, Ok, Err, refl, sym, subst, append_assoc, arith}
 use Rattle.std.specs.Prelude.{MatchBool}
 use Rattle.std.proofs.lemmas.List.{append-nil}
 use Rattle.node_store.specs.Disks.{View}
 use Rattle.cluster_model.specs.Room.{Flight}
-use Rattle.cluster_world.specs.Flights.{first_number}
+use Rattle.object_model.specs.Lists.{Among}
+use Rattle.cluster_world.specs.Flights.{first_number, AreAbove, NumbersRise, AreInOrder}
 use Rattle.cluster_world.specs.Worlds.{state_of}
 use Rattle.cluster_world.specs.Steps.{IsStep, SaysSo}
 use Rattle.cluster_world.specs.Made.{StepMade, IsPost, PostsAll, has_failed}
-use Rattle.cluster_world.specs.Flows.{IsDelivered, AllDelivered, HasFlowed}
+use Rattle.cluster_world.specs.Flows.{IsDelivered, AllDelivered, IsLowest, PostsLowest, HasFlowed}
 use Rattle.cluster_world.specs.declared.world.World.{World}
 use Rattle.cluster_world.specs.declared.step.Step.TheVariants.{Post}
 use Rattle.cluster_world.specs.declared.step.Said.{Said}
 use Rattle.cluster_world.specs.declared.step.Said.TheVariants.{Begun, Noted, Asked, Heard, Thrown, Sent, Widened, Grouped, Concluded, NodeUp, Done, Faulted}
 use Rattle.cluster_world.specs.declared.fault.StepFault.{StepFault}
+use Rattle.cluster_world.proofs.Still.{some_same}
 
 -- a letter that was delivered
 delivers : (result : Result Said StepFault) → IsDelivered result → has_failed result ≡ false
@@ -31,15 +33,37 @@ delivers (Ok Done) is = absurd is
 delivers (Ok (Faulted n)) is = absurd is
 delivers (Err why) is = absurd is
 
+above_all : (n : ℕ) (flights : List Flight) → AreAbove n flights → (other : Flight) → Among other flights → n ≤ other.number
+above_all n [] above other m = absurd m
+above_all n (flight ∷ flights) (more, above) other (inl same) = subst (λ (f : Flight). n ≤ f.number) same (omega (arith, more))
+above_all n (flight ∷ flights) (more, above) other (inr m) = above_all n flights above other m
+
+-- the first of letters whose numbers rise has the lowest
+lowest_of : (letter : ℕ) (flights : List Flight) → first_number flights ≡ Some letter → NumbersRise flights → IsLowest letter flights
+lowest_of letter [] e rise = absurd (let never : None ≡ Some letter = e in cc)
+lowest_of letter (flight ∷ flights) e (above, rise) =
+    let is : flight.number ≡ letter = some_same flight.number letter e in
+    record {
+      flight = flight;
+      flies = inl refl;
+      is = is;
+      least = λ other m. subst (λ k. k ≤ other.number) is (by other m);
+    }
+  where
+    by : (other : Flight) → Among other (flight ∷ flights) → flight.number ≤ other.number
+    by other (inl same) = subst (λ (f : Flight). flight.number ≤ f.number) same (omega arith)
+    by other (inr m) = above_all flight.number flights above other m
+
 module _ {D : Type 0} (on : View D) where
   -- so far each receiver goes on; with those that follow, all letters are posted
   pub record WerePosted (old new : World D) : Type 0 where
     pub steps : List StepMade
     pub all : AllDelivered steps
+    pub lowest : PostsLowest on steps old new
     pub goes_on : (rest : List StepMade) (last : World D) → PostsAll on rest new last → PostsAll on (steps ++ rest) old last
 
   pub none_posted : (world : World D) → WerePosted world world
-  none_posted world = record { steps = []; all = tt; goes_on = λ rest last more. more }
+  none_posted world = record { steps = []; all = tt; lowest = refl; goes_on = λ rest last more. more }
 
   all_more : (steps : List StepMade) (one : StepMade) → AllDelivered steps → IsPost one → IsDelivered one.result → AllDelivered (steps ++ one ∷ [])
   all_more [] one h post is = (post, is, tt)
@@ -50,24 +74,31 @@ module _ {D : Type 0} (on : View D) where
 
   -- the first of the letters in flight was posted
   abbrev pub PostsFirst : ℕ → Result Said StepFault → World D → World D → Type 0
-  PostsFirst letter result mid new = (first_number (state_of mid).flying.flights ≡ Some letter) × IsStep on result (Post letter false) mid new
+  PostsFirst letter result mid new = (first_number (state_of mid).flying.flights ≡ Some letter) × AreInOrder (state_of mid).flying × IsStep on result (Post letter false) mid new
+
+  lowest_more : (steps : List StepMade) (letter : ℕ) (result : Result Said StepFault) (old mid new : World D) → PostsLowest on steps old mid → PostsFirst letter result mid new → PostsLowest on (steps ++ made_of letter result ∷ []) old new
+  unfolding made_of
+  lowest_more [] letter result old mid new same (first, order, is) =
+      subst (λ (w : World D). PostsLowest on (record { step = Post letter false; result = result } ∷ []) w new) same (letter, new, lowest_of letter (state_of mid).flying.flights first order.rising, refl, is, refl)
+  lowest_more (one ∷ steps) letter result old mid new (number, next, low, step_is, did, rest) first = (number, next, low, step_is, did, lowest_more steps letter result next mid new rest first)
 
   goes_well : (letter : ℕ) (result : Result Said StepFault) (mid new last : World D) (rest : List StepMade) → PostsFirst letter result mid new → has_failed result ≡ false → PostsAll on rest new last
       → PostsAll on (made_of letter result ∷ rest) mid last
   unfolding made_of
   goes_well letter result mid new last rest first well more =
-      (letter, new, first.0, refl, first.1, subst (λ (b : Bool). MatchBool b ((rest ≡ []) × (last ≡ new)) (PostsAll on rest new last)) (sym well) more)
+      (letter, new, first.0, refl, first.2, subst (λ (b : Bool). MatchBool b ((rest ≡ []) × (last ≡ new)) (PostsAll on rest new last)) (sym well) more)
 
   goes_no_further : (letter : ℕ) (result : Result Said StepFault) (mid new : World D) → PostsFirst letter result mid new → has_failed result ≡ true → PostsAll on (made_of letter result ∷ []) mid new
   unfolding made_of
   goes_no_further letter result mid new first failed =
-      (letter, new, first.0, refl, first.1, subst (λ (b : Bool). MatchBool b ((◌≡◌ {A = List StepMade} [] []) × (new ≡ new)) (PostsAll on [] new new)) (sym failed) (refl, refl))
+      (letter, new, first.0, refl, first.2, subst (λ (b : Bool). MatchBool b ((◌≡◌ {A = List StepMade} [] []) × (new ≡ new)) (PostsAll on [] new new)) (sym failed) (refl, refl))
 
   pub one_more_posted : (letter : ℕ) (result : Result Said StepFault) (old mid new : World D) → WerePosted old mid → PostsFirst letter result mid new → IsDelivered result → WerePosted old new
   unfolding made_of
   one_more_posted letter result old mid new posted first is = record {
     steps = posted.steps ++ made_of letter result ∷ [];
     all = all_more posted.steps (made_of letter result) posted.all (letter, refl) is;
+    lowest = lowest_more posted.steps letter result old mid new posted.lowest first;
     goes_on = λ rest last more. subst (λ (l : List StepMade). PostsAll on l old last) (sym (append_assoc posted.steps (made_of letter result ∷ []) rest))
         (posted.goes_on (made_of letter result ∷ rest) last (goes_well letter result mid new last rest first (delivers result is) more));
   }
@@ -76,6 +107,7 @@ module _ {D : Type 0} (on : View D) where
   all_posted old new posted none = record {
     steps = posted.steps;
     made = subst (λ (l : List StepMade). PostsAll on l old new) (append-nil posted.steps) (posted.goes_on [] new (none, refl));
+    lowest = posted.lowest;
     flows = posted.all;
   }
 
@@ -84,6 +116,7 @@ module _ {D : Type 0} (on : View D) where
   posted_until letter node old mid new posted first = record {
     steps = posted.steps ++ made_of letter (Ok (Faulted node)) ∷ [];
     made = posted.goes_on (made_of letter (Ok (Faulted node)) ∷ []) new (goes_no_further letter (Ok (Faulted node)) mid new first refl);
+    lowest = lowest_more posted.steps letter (Ok (Faulted node)) old mid new posted.lowest first;
     flows = (posted.steps, made_of letter (Ok (Faulted node)), refl, posted.all, (letter, refl), refl);
   }
 
@@ -92,6 +125,7 @@ module _ {D : Type 0} (on : View D) where
   posted_then letter why old mid new posted first = record {
     steps = posted.steps ++ made_of letter (Err why) ∷ [];
     made = posted.goes_on (made_of letter (Err why) ∷ []) new (goes_no_further letter (Err why) mid new first refl);
+    lowest = lowest_more posted.steps letter (Err why) old mid new posted.lowest first;
     flows = (posted.steps, made_of letter (Err why), refl, posted.all, (letter, refl), refl);
   }
 

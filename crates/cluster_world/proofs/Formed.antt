@@ -49,7 +49,7 @@ use Rattle.cluster_world.specs.Flights.{AreInOrder}
 use Rattle.cluster_world.specs.Lives.{of_node, life_seen}
 use Rattle.cluster_world.specs.Maps.{StandsForWhole}
 use Rattle.cluster_world.specs.Made.{StepMade, MakesSteps, has_failed}
-use Rattle.cluster_world.specs.Regroups.{AllWentOn, posts_behind, sent_in, is_old, was_old, threw_old, ArePosted, AreAllPosted, IsRound, IsSecondRound, IsConclusion, IsInOrder, HasFormed, has_worn, is_worn_at, has_room_for_rounds}
+use Rattle.cluster_world.specs.Regroups.{AllWentOn, posts_behind, sent_in, is_old, was_old, threw_old, ArePosted, AreAllPosted, IsRound, IsSecondRound, IsConclusion, IsInOrder, HasFormed, used_up_in, group_is_worn, has_room_for_rounds}
 use Rattle.cluster_world.specs.Seen.{whole_step, whole_said, whole_outcome}
 use Rattle.cluster_world.specs.Steps.{IsStep, SaysSo}
 use Rattle.cluster_world.specs.Turns.{node_refusal, actor_refusal, life_after_step}
@@ -71,7 +71,7 @@ use Rattle.cluster_world.proofs.Still.{some_same, both_at}
 use Rattle.cluster_world.proofs.Wholes.{UpWhole, whole_up, StepsWhole, step_whole, is_of_next}
 
 -- what a step said that went on is no fault in the machine
-fine_of : (what : Said) (n : ℕ) → has_failed (Ok what) ≡ false → whole_said what ≢ Told (MailFaulted n)
+pub fine_of : (what : Said) (n : ℕ) → has_failed (Ok what) ≡ false → whole_said what ≢ Told (MailFaulted n)
 fine_of (said.Faulted node) n fine e = true≢false fine
 fine_of (said.Begun ticket stirs) n fine e = cc e
 fine_of said.Noted n fine e = cc e
@@ -196,7 +196,7 @@ up_of (Some (lives.Up node)) boot e = (node, refl, same (node_seen node.mail).bo
     same a b h = cc
 
 -- and by what maps have of it
-maps_up : (slot : Option whole.Slot) (x : maps.Node) → maps_of_slot slot ≡ Some x → (seen : whole.Node) × (disk : List Record) × (slot ≡ Some (whole_world.slot_up seen disk)) × (seen.maps ≡ x)
+pub maps_up : (slot : Option whole.Slot) (x : maps.Node) → maps_of_slot slot ≡ Some x → (seen : whole.Node) × (disk : List Record) × (slot ≡ Some (whole_world.slot_up seen disk)) × (seen.maps ≡ x)
 maps_up None x e = absurd (let never : None ≡ Some x = e in cc)
 maps_up (Some slot) x e = by slot.life refl e
   where
@@ -221,10 +221,10 @@ module _ {D : Type 0} (on : View D) (plan : Plan) (told : Bool) where
       → OnePosted number result h.v from to
   one_post number (Err reason) from to of is fine h = absurd (true≢false fine)
   one_post number (Ok what) from to of is fine h =
-      let s = step_whole on plan told (Ok what) (step.Post (number + 1) false) from to of (inr tt) tt is h.v h.sound h.stands in
+      let s = step_whole on plan told (Ok what) (step.Post (number + 1) false) from to of (inr tt) tt is h.v h.sound h.charted h.stands in
       record {
         what = whole_said what;
-        ends = record { v = s.now; sound = s.sound; stands = s.stands };
+        ends = record { v = s.now; sound = s.sound; charted = s.charted; stands = s.stands };
         made = s.made;
         fine = λ n. fine_of what n fine;
         old_there_is = old_there what;
@@ -258,7 +258,7 @@ module _ {D : Type 0} (on : View D) (plan : Plan) (told : Bool) where
       → Posted number count steps h.v from to
   posts number zero [] from to of made all well h = record {
     saids = [];
-    ends = record { v = h.v; sound = h.sound; stands = subst (λ (w : World D). StandsForWhole on (state_of w) h.v) (sym made) h.stands };
+    ends = record { v = h.v; sound = h.sound; charted = h.charted; stands = subst (λ (w : World D). StandsForWhole on (state_of w) h.v) (sym made) h.stands };
     each = refl;
     count_is = refl;
     old_there_is = λ e. absurd (true≢false (sym e));
@@ -306,9 +306,9 @@ module _ {D : Type 0} (on : View D) (plan : Plan) (told : Bool) where
   round_made n again old new steps of r h =
       let (epoch, group_is) = grouped n r.group r.opened.did.kind r.opens_well in
       let is : IsStep on (Ok (said.Grouped epoch)) (step.Group n) old r.asked = subst (λ (g : Said). IsStep on (Ok g) (step.Group n) old r.asked) group_is r.opened in
-      let s = step_whole on plan told (Ok (said.Grouped epoch)) (step.Group n) old r.asked of (inr tt) tt is h.v h.sound h.stands in
+      let s = step_whole on plan told (Ok (said.Grouped epoch)) (step.Group n) old r.asked of (inr tt) tt is h.v h.sound h.charted h.stands in
       let up = open_sent plan told h.v s.now n epoch s.made in
-      let a : IsWhole on plan r.asked = record { v = s.now; sound = s.sound; stands = s.stands } in
+      let a : IsWhole on plan r.asked = record { v = s.now; sound = s.sound; charted = s.charted; stands = s.stands } in
       let p = all_posted old r.asked again r.asked r.heard r.asks (is_of_next on plan told (Ok (said.Grouped epoch)) (step.Group n) old r.asked of is) r.posted a in
       let q = all_posted r.asked r.heard r.late r.heard new r.answers p.of r.answered p.ends in
       record {
@@ -340,9 +340,9 @@ module _ {D : Type 0} (on : View D) (plan : Plan) (told : Bool) where
   conclusion_made : (n : ℕ) (epoch : EpochId) (members : ℕ) (old new : World D) (steps : List StepMade) → IsOf on plan told old → IsConclusion on n epoch members old new steps → (h : IsWhole on plan old)
       → ConclusionMade n epoch members h.v old new
   conclusion_made n epoch members old new steps of c h =
-      let s = step_whole on plan told (Ok (said.Concluded epoch members)) (step.Conclude n) old c.concluded of (inr tt) tt c.concludes h.v h.sound h.stands in
+      let s = step_whole on plan told (Ok (said.Concluded epoch members)) (step.Conclude n) old c.concluded of (inr tt) tt c.concludes h.v h.sound h.charted h.stands in
       let up = conclude_sent plan told h.v s.now n (WholeConcluded epoch members) s.made in
-      let a : IsWhole on plan c.concluded = record { v = s.now; sound = s.sound; stands = s.stands } in
+      let a : IsWhole on plan c.concluded = record { v = s.now; sound = s.sound; charted = s.charted; stands = s.stands } in
       let p = all_posted old c.concluded c.late c.concluded new c.installs (is_of_next on plan told (Ok (said.Concluded epoch members)) (step.Conclude n) old c.concluded of c.concludes) c.posted a in
       record {
         ends = p.ends;
@@ -371,7 +371,7 @@ module _ {D : Type 0} (on : View D) (plan : Plan) (told : Bool) where
 
       by : (b : Bool) → is.again ≡ b → IsSecondRound on n b is.asked is.asked_again is.two → RegroupMade n epoch members h.v old new
       by false e (none, same) =
-          let at : IsWhole on plan is.asked_again = record { v = r.ends.v; sound = r.ends.sound; stands = subst (λ (w : World D). StandsForWhole on (state_of w) r.ends.v) (sym same) r.ends.stands } in
+          let at : IsWhole on plan is.asked_again = record { v = r.ends.v; sound = r.ends.sound; charted = r.ends.charted; stands = subst (λ (w : World D). StandsForWhole on (state_of w) r.ends.v) (sym same) r.ends.stands } in
           let c = conclusion_made n epoch members is.asked_again new is.last (subst (IsOf on plan told) (sym same) r.of) is.ends at in
           record {
             ends = c.ends;
@@ -478,14 +478,14 @@ module _ {D : Type 0} (on : View D) where
     }
 
   -- where a group was opened no number was used up
-  still_fresh : (world : World D) (v : whole_world.World) (n : ℕ) → StandsForWhole on (state_of world) v → step_fault (plan_of world) (OpenGroup n) v ≡ None → is_worn_at n (state_of world) ≡ false
-  still_fresh world v n st fits = neither (nat_le mail_steps.letters_end (state_of world).flying.sent) (has_worn (of_node (lives_of world) n))
+  still_fresh : (world : World D) (v : whole_world.World) (n : ℕ) → StandsForWhole on (state_of world) v → step_fault (plan_of world) (OpenGroup n) v ≡ None → group_is_worn n (state_of world) ≡ false
+  still_fresh world v n st fits = neither (nat_le mail_steps.letters_end (state_of world).flying.sent) (used_up_in (of_node (lives_of world) n))
       (ap (nat_le mail_steps.letters_end) st.mail.sent ∙ letters_left (nat_le mail_steps.letters_end v.sent) both.0) (by (of_node (lives_of world) n) refl)
     where
       both : (option_map whole_steps.StepFault.Fault (letters_worn v) ≡ None) × (by_slot (open_fault (plan_of world) v) (whole.slot_at v.slots n) ≡ None)
       both = not_first (node_fault (plan_of world) (n ∷ [])) (option_map whole_steps.StepFault.Fault (actor_fault n v)) (option_map whole_steps.StepFault.Fault (letters_worn v)) (by_slot (open_fault (plan_of world) v) (whole.slot_at v.slots n)) fits
 
-      by : (o : Option Life) → of_node (lives_of world) n ≡ o → has_worn o ≡ false
+      by : (o : Option Life) → of_node (lives_of world) n ≡ o → used_up_in o ≡ false
       by None is = refl
       by (Some lives.Down) is = refl
       by (Some lives.Lost) is = refl
@@ -496,7 +496,7 @@ module _ {D : Type 0} (on : View D) where
 
   -- so a regroup does that is made in order, where there was room
   pub forms_the_up : (n : ℕ) (epoch : EpochId) (members : ℕ) (old new : World D) (steps : List StepMade) → IsInOrder on n epoch members old new steps → AreInOrder (state_of old).flying → CanMakeSteps on.seen old → CanMakeSteps on.seen new
-      → (node_refusal (plan_of old) (life_of old) (step.Group n) ≡ None → is_worn_at n (state_of old) ≡ false → has_room_for_rounds (plan_of old).nodes (state_of old).flying.flights ≡ true) → IsWhole on (plan_of old) old
+      → (node_refusal (plan_of old) (life_of old) (step.Group n) ≡ None → group_is_worn n (state_of old) ≡ false → has_room_for_rounds (plan_of old).nodes (state_of old).flying.flights ≡ true) → IsWhole on (plan_of old) old
       → HasFormed epoch members (state_of old) (state_of new)
   forms_the_up n epoch members old new steps is order ready ready' roomy h =
       let fit = is.first.opened.did.refused in

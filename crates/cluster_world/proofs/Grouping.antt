@@ -17,7 +17,7 @@ use Rattle.cluster_model.specs.Cluster.{Slot}
 use Rattle.cluster_model.specs.Deeds.{slot_up}
 use Rattle.cluster_model.specs.World as machine
 use Rattle.cluster_model.specs.Steps as steps
-use Rattle.cluster_model.specs.Steps.{is_node, nodes_named, actor_of, letters_end, step_fault}
+use Rattle.cluster_model.specs.Steps.{is_node, actor_of, letters_end, step_fault}
 use Rattle.cluster_model.specs.Makes.{IsUp, IsSaidOfForming, FormsAt, RunsShort, MakesStep, cut_world, after}
 use Rattle.cluster_model.specs.Forms.{promise_records}
 use Rattle.maps_model.specs.Rules as maps_rules
@@ -62,7 +62,7 @@ use Rattle.cluster_world.specs.Stands.{SlotStands}
 use Rattle.cluster_world.specs.Steps.{SaysSo, StepDid, LeadsWhole, AreSettled, WasToWork, FallsSo, IsLighter, IsRefusedRight, IsUnchanged, ChangesNothing, FaultHasCause}
 use Rattle.cluster_world.specs.Telling.{members_seen}
 use Rattle.cluster_world.specs.Turning.{life_left}
-use Rattle.cluster_world.specs.Turns.{life_refusal, actor_refusal, node_refusal, life_after_step, seconds_after_step}
+use Rattle.cluster_world.specs.Turns.{life_refusal, actor_refusal, nodes_of_step, node_refusal, life_after_step, seconds_after_step}
 use Rattle.cluster_world.specs.Unfinished.{said_of_fault, entries_of_fault}
 use Rattle.cluster_world.specs.Worlds.{WorldState, seen_life, life_among, state_with, tells_in, node_of_life, StateStandsFor}
 use Rattle.cluster_world.specs.declared.life.Life.{Life}
@@ -150,11 +150,12 @@ pub named_twice : (plan : Plan) (n : ℕ) → list_all (is_node plan) (n ∷ [])
 named_twice plan n named = let is : is_node plan n ≡ true = (and_parts (is_node plan n) true named).0 in ap (λ b. b && (b && true)) is
 
 -- the node and its disk at their place, where the nodes are lent
-module _ {D : Type 0} (on : View D) (n : ℕ) (s : Step) (forms : step_seen s ≡ steps.Step.Form n) (working : Works s) (lent old : Nodes D) (same : lent ≡ old) (fit : node_refusal old.plan (life_among old) s ≡ None)
+module _ {D : Type 0} (on : View D) (n : ℕ) (s : Step) (forms : step_seen s ≡ steps.Step.Form n) (names : nodes_of_step s ≡ n ∷ []) (working : Works s) (lent old : Nodes D) (same : lent ≡ old) (fit : node_refusal old.plan (life_among old) s ≡ None)
     (ready : CanWorkOn on.seen old.plan old.lives.items old.disks.items) (k : ℕ) (at : k + 1 ≡ n) (l dl : Life) (d dd : D) (read : l ≡ get_or lent.lives.items k dl) (held : d ≡ get_or lent.disks.items k dd) where
   fits : (list_all (is_node old.plan) (n ∷ []) ≡ true) × (life_refusal s (life_among old n) ≡ None)
   fits = fit_of (list_all (is_node old.plan) (n ∷ [])) (life_refusal s (life_among old n))
-      (subst (λ (x : steps.Step). (if list_all (is_node old.plan) (nodes_named x) then actor_refusal s (life_among old) (actor_of x) else Some fault.NoSuchNode) ≡ None) forms fit)
+      (subst (λ (x : steps.Step). (if list_all (is_node old.plan) (n ∷ []) then actor_refusal s (life_among old) (actor_of x) else Some fault.NoSuchNode) ≡ None) forms
+      (subst (λ ns. (if list_all (is_node old.plan) ns then actor_refusal s (life_among old) (actor_of (step_seen s)) else Some fault.NoSuchNode) ≡ None) names fit))
 
   twice : list_all (is_node old.plan) (n ∷ n ∷ []) ≡ true
   twice = named_twice old.plan n fits.0
@@ -189,7 +190,7 @@ module _ {D : Type 0} (on : View D) where
   -- a step by which an epoch forms, whatever comes of it
   pub record IsForming (n : ℕ) (s : Step) : Type 0 where
     pub seen : step_seen s ≡ steps.Step.Form n
-    pub fails : SaysSo s (said.Faulted n)
+    pub named : (plan : Plan) (lives : ℕ → NodeLife) → node_refusal plan lives s ≡ None → list_all (is_node plan) (n ∷ []) ≡ true
     pub clock : (result : Result Said StepFault) (was : ℕ) → was ≡ seconds_after_step s result was
     pub lighter : (it : Said) (old new : WorldState D) → IsLighter (Ok it) s old new
 
@@ -202,21 +203,20 @@ module _ {D : Type 0} (on : View D) where
     pub of_forming : IsSaidOfForming (said_seen what)
 
   pub group_forms : (n : ℕ) → IsForming n (step.Group n)
-  group_forms n = record { seen = refl; fails = refl; clock = λ result was. refl; lighter = λ it old new. tt }
+  group_forms n = record { seen = refl; named = λ plan lives fit. (fit_of (list_all (is_node plan) (n ∷ [])) (life_refusal (step.Group n) (lives n)) fit).0; clock = λ result was. refl; lighter = λ it old new. tt }
 
   pub group_formed : (n : ℕ) (epoch : EpochId) → IsFormed (step.Group n) (said.Grouped epoch)
   group_formed n epoch = record { says = tt; goes_on = λ m was. refl; falls = λ nodes lives. tt; cause = λ old new. tt; of_forming = tt }
 
   pub conclude_forms : (n : ℕ) → IsForming n (step.Conclude n)
-  conclude_forms n = record { seen = refl; fails = refl; clock = λ result was. refl; lighter = λ it old new. tt }
+  conclude_forms n = record { seen = refl; named = λ plan lives fit. (fit_of (list_all (is_node plan) (n ∷ [])) (life_refusal (step.Conclude n) (lives n)) fit).0; clock = λ result was. refl; lighter = λ it old new. tt }
 
   pub conclude_formed : (n : ℕ) (epoch : EpochId) (members : ℕ) → IsFormed (step.Conclude n) (said.Concluded epoch members)
   conclude_formed n epoch members = record { says = tt; goes_on = λ m was. refl; falls = λ nodes lives. tt; cause = λ old new. tt; of_forming = tt }
 
   module _ (n : ℕ) (s : Step) (f : IsForming n s) (old : Nodes D) (fit : node_refusal old.plan (life_among old) s ≡ None) (ready : CanWorkOn on.seen old.plan old.lives.items old.disks.items) where
     named : list_all (is_node old.plan) (n ∷ []) ≡ true
-    named = subst (λ (x : steps.Step). list_all (is_node old.plan) (nodes_named x) ≡ true) f.seen
-        (fit_of (list_all (is_node old.plan) (nodes_named (step_seen s))) (actor_refusal s (life_among old) (actor_of (step_seen s))) fit).0
+    named = f.named old.plan (life_among old) fit
 
     made_as : (tells : Bool) (w next : machine.World) (outcome : steps.StepOutcome) → MakesStep old.plan tells w (steps.Step.Form n) outcome next → MakesStep old.plan tells w (step_seen s) outcome next
     made_as tells w next outcome made = subst (λ (x : steps.Step). MakesStep old.plan tells w x outcome next) (sym f.seen) made
@@ -345,8 +345,8 @@ module _ {D : Type 0} (on : View D) where
           Falls result = (w : machine.World) (st : StateStandsFor on first w) → WholeTo first result mid.lives.items w (cut_world w n (cut w st).disk (cut w st).front (cut w st).pending)
 
           -- its disk failed
-          pub form_failed : Rose (on.faults ch.disk) (on.faults ch.disk') → Falls (Ok (said.Faulted n)) → StepDid on (Ok (said.Faulted n)) s first between
-          form_failed rose whole = work_did on n P old mid mid ch (λ slots. slots) (nothing_else on mid) flying flying seconds book book' (Ok (said.Faulted n)) s (f.clock (Ok (said.Faulted n)) seconds) (sym fit) f.fails was_to_work lives_down
+          pub form_failed : SaysSo s (said.Faulted n) → Rose (on.faults ch.disk) (on.faults ch.disk') → Falls (Ok (said.Faulted n)) → StepDid on (Ok (said.Faulted n)) s first between
+          form_failed fails rose whole = work_did on n P old mid mid ch (λ slots. slots) (nothing_else on mid) flying flying seconds book book' (Ok (said.Faulted n)) s (f.clock (Ok (said.Faulted n)) seconds) (sym fit) fails was_to_work lives_down
               told later (λ boot up. absurd (not_up boot up)) (f.lighter (said.Faulted n) first between) (longer_by book book' (written.Down n ∷ []) wrote) tt
               (λ w st.
               let c = cut w st in
@@ -547,10 +547,10 @@ module _ {D : Type 0} (on : View D) where
               → (c : CutSlot on n P old mid mid ch (forms_rule learns_nothing installed promise []) a was flying flying seconds book book' w)
               → WholeTo (state_with old flying seconds book) result mid.lives.items w (cut_world w n c.disk c.front c.pending)
 
-          pub failed_by : (installed : Option Membership) (promise : Option EpochId) → NodeStopped on (forms_rule learns_nothing installed promise []) a.mail ch.disk ch.disk' → Rose (on.faults ch.disk) (on.faults ch.disk')
+          pub failed_by : SaysSo s (said.Faulted n) → (installed : Option Membership) (promise : Option EpochId) → NodeStopped on (forms_rule learns_nothing installed promise []) a.mail ch.disk ch.disk' → Rose (on.faults ch.disk) (on.faults ch.disk')
               → Cuts installed promise (Ok (said.Faulted n)) → FormDid roomy (Ok (said.Faulted n)) mid flying book'
-          failed_by installed promise stopped rose whole = down_by (Ok (said.Faulted n)) (λ seconds. form_failed P mid ch a was flying early seconds book book' installed promise [] down told later now_wrote
-              (λ w st. work_stopped on n P old mid mid ch (forms_rule learns_nothing installed promise []) a was flying flying seconds book book' stopped w st) rose
+          failed_by fails installed promise stopped rose whole = down_by (Ok (said.Faulted n)) (λ seconds. form_failed P mid ch a was flying early seconds book book' installed promise [] down told later now_wrote
+              (λ w st. work_stopped on n P old mid mid ch (forms_rule learns_nothing installed promise []) a was flying flying seconds book book' stopped w st) fails rose
               (λ w st. whole seconds w st (work_stopped on n P old mid mid ch (forms_rule learns_nothing installed promise []) a was flying flying seconds book book' stopped w st)))
 
           pub fell_by : (installed : Option Membership) (promise : Option EpochId) → NodeStopped on (forms_rule learns_nothing installed promise []) a.mail ch.disk ch.disk' → Cuts installed promise (Err (fault.NoMemory (Some n)))
@@ -675,7 +675,7 @@ module _ {D : Type 0} (on : View D) where
               by : (why : NodeFault) → Opens (Err why) → entries_of book' ≡ entries_of roomy ++ entries_of_fault n why → FormDid roomy (said_of_fault n why) mid flying book'
               by Disk (so, is, up) written_is =
                   let (may, stopped, fails) = so.failed in
-                  failed_by roomy wrote room P_group mid ch a_node ch.does.0.was is stopped.stops.told fails.0 book' written_is spare None (Some (next_of a_node)) stopped fails.1
+                  failed_by roomy wrote room P_group mid ch a_node ch.does.0.was is stopped.stops.told fails.0 book' written_is spare (subst (λ (x : Step). SaysSo x (said.Faulted n)) (sym s_is) refl) None (Some (next_of a_node)) stopped fails.1
                   (λ seconds w st c. (falls is book' so.fresh seconds w st c).0)
               by Worn (so, is, up) written_is =
                   worn_by roomy wrote room P_group mid ch a_node ch.does.0.was b_node is so.1.as_before so.1.untouched (up tt).1 book' (written_is ∙ append-nil (entries_of roomy)) spare

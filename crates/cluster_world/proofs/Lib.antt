@@ -2,6 +2,8 @@ pub mod AfterWidening
 pub mod AfterWork
 pub mod Along
 pub mod Asked
+pub mod AtOpening
+pub mod AtRest
 pub mod Befallen
 pub mod BeginEnds
 pub mod BeginFalls
@@ -49,9 +51,13 @@ pub mod Quietly
 pub mod Refusals
 pub mod Refused
 pub mod Refusing
+pub mod Reporting
+pub mod Righted
 pub mod Rounds
 pub mod Same
 pub mod SeenAlike
+pub mod SettledWhole
+pub mod Settles
 pub mod Starts
 pub mod Still
 pub mod Sums

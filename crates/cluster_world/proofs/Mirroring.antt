@@ -29,8 +29,9 @@ use Rattle.cluster_world.specs.Ended.{IsEnded}
 use Rattle.cluster_world.specs.Steps.{IsBlind, IsStep}
 use Rattle.cluster_world.specs.Made.{StepMade, MakesSteps}
 use Rattle.cluster_world.specs.Outcomes.{asked_by_outcome as asked_by, answered_by_outcome as answered_by, Outcome, Awaited, MakesOrder, Came, IsLeave, left_after, left_after_all, fallen_in}
-use Rattle.cluster_world.specs.Outcomes.Outcome.{Began, Refused, Fell, Broke, Answers, StillPending, Unanswered, GaveUp, Abandoned, KeptUp, Left, Moved}
+use Rattle.cluster_world.specs.Outcomes.Outcome.{Began, Refused, Fell, Broke, Answers, StillPending, Unanswered, GaveUp, Abandoned, KeptUp, Left, Moved, Settling, Mapped}
 use Rattle.cluster_world.specs.Owing.{AreBlind, IsOfBlind, IsOfSession}
+use Rattle.cluster_world.specs.Settling.{AreOfSettle}
 use Rattle.cluster_world.specs.declared.world.World.{World}
 use Rattle.cluster_world.specs.declared.step.Step.{Step}
 use Rattle.cluster_world.specs.declared.step.Step.TheVariants as step
@@ -41,7 +42,7 @@ use Rattle.cluster_world.specs.declared.fault.StepFault.TheVariants as fault
 use Rattle.cluster_world.proofs.Ordered.{order_makes, order_are}
 use Rattle.cluster_world.proofs.SeenAlike.{made_alike, told_alike}
 use Rattle.cluster_world.proofs.Ended.{sound_ended}
-use Rattle.cluster_world.proofs.Quietly.{AreQuiet, AnswersAmiss, refusal_quiet, untold_quiet, IsTick, tick_or, tick_done, unticked_quiet, moves_quiet}
+use Rattle.cluster_world.proofs.Quietly.{AreQuiet, AnswersAmiss, refusal_quiet, untold_quiet, IsTick, tick_or, tick_done, unticked_quiet, moves_quiet, settle_quiet}
 use Rattle.cluster_world.proofs.Chained.{step_stays}
 use Rattle.cluster_world.proofs.Mirrors.{Mirrored, Led, HaveBegun, IsOf, begun_of, begun_with, led, quiet_one, joined}
 
@@ -282,3 +283,25 @@ module _ {D : Type 0} (on : View D) (plan : Plan) (told : Bool) where
           sessions = λ lines all. m.sessions lines (λ outcome k. absurd k);
         })
         (tick_or asked)
+    mirror (Settling result made) known of_it (makes, are, left_is) =
+        let m = moved made awaited begun w old new of stands within (settle_quiet made (subst AreOfSettle are makes.of)) known (subst (λ (l : List StepMade). MakesSteps on l old new) are makes.made) in record {
+          outs = m.outs;
+          next = m.next;
+          makes = m.makes;
+          stands = m.stands;
+          asked = m.asked;
+          answered = m.answered;
+          within = λ one k. m.within one (subst (Among one) left_is k);
+          sessions = λ lines all. m.sessions lines (λ outcome k. absurd k);
+        }
+    mirror (Mapped user told_map) known of_it (told_is, left_is, same) =
+        let m = moved [] awaited begun w old new of stands within tt (⊎_elim (λ told_all. inl told_all) (λ blind. inr tt) known) same in record {
+          outs = m.outs;
+          next = m.next;
+          makes = m.makes;
+          stands = m.stands;
+          asked = m.asked;
+          answered = m.answered;
+          within = λ one k. m.within one (subst (Among one) left_is k);
+          sessions = λ lines all. m.sessions lines (λ outcome k. absurd k);
+        }

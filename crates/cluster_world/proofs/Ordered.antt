@@ -1,5 +1,5 @@
 -- What the steps of a run line are, whatever came of them.
-use Rattle.std.proofs.Common.{◌≡◌, ℕ, zero, suc, Bool, true, false, nat_eq, List, [], ◌∷◌, ◌++◌, Result, refl, sym, ap, ◌∙◌, subst}
+use Rattle.std.proofs.Common.{◌≡◌, ℕ, zero, suc, Bool, true, false, nat_eq, List, [], ◌∷◌, ◌++◌, Option, Some, None, Result, refl, sym, ap, ◌∙◌, subst}
 use Rattle.std.specs.Prelude.{All, MatchBool, if◌then◌else◌}
 use Rattle.std.proofs.lemmas.List.Elements.{All-nil, All-cons}
 use Rattle.mail_model.specs.Tape.{ClusterOrder}
@@ -8,8 +8,13 @@ use Rattle.session_model.specs.Events.{NodeLife, IsUp}
 use Rattle.session_model.specs.Events.NodeLife.{Up, Down, Lost}
 use Rattle.node_store.specs.Disks.{View}
 use Rattle.cluster_world.specs.Steps.{IsStep}
-use Rattle.cluster_world.specs.Made.{StepMade, MakesSteps, IsPost, PostsAll, PushesTo, PushesAll, AreOfRegroup, MakesOne, has_failed, nodes_but}
+use Rattle.cluster_world.specs.Made.{StepMade, MakesSteps, IsPost, PostsAll, StepsTo, PushesTo, PushesAll, ReportsAll, others_in, AreOfRegroup, MakesOne, has_failed, nodes_but}
+use Rattle.cluster_world.specs.Lives.{of_node}
 use Rattle.cluster_world.specs.Outcomes.{MakesOrder}
+use Rattle.cluster_world.specs.Telling.{members_seen}
+use Rattle.cluster_world.specs.Worlds.{state_of, seen_life, life_of, node_of_life}
+use Rattle.cluster_world.specs.declared.life.Life.{Life}
+use Rattle.cluster_world.specs.declared.life.Life.TheVariants as lives
 use Rattle.cluster_world.specs.declared.world.World.{World}
 use Rattle.cluster_world.specs.declared.step.Step.{Step}
 use Rattle.cluster_world.specs.declared.step.Step.TheVariants as step
@@ -19,6 +24,10 @@ use Rattle.cluster_world.specs.declared.fault.StepFault.{StepFault}
 -- the step pushes from this node
 abbrev pub IsPushOf : ℕ → StepMade → Type 0
 IsPushOf node one = (to : ℕ) × (one.step ≡ step.Push node to)
+
+-- the step reports from this node
+abbrev pub IsReportOf : ℕ → StepMade → Type 0
+IsReportOf node one = (to : ℕ) × (one.step ≡ step.Report node to)
 
 -- the steps are this one
 abbrev pub AreOne : Step → List StepMade → Type 0
@@ -39,7 +48,10 @@ AreStepsOf (order.Group node) steps = AreOne (step.Group node) steps
 AreStepsOf (order.Conclude node) steps = AreOne (step.Conclude node) steps
 AreStepsOf (order.Regroup node) steps = AreOfRegroup node steps
 AreStepsOf (order.Tick seconds) steps = AreOne (step.Tick seconds) steps
+AreStepsOf (order.Report node) steps = All (IsReportOf node) steps
 AreStepsOf order.Sum steps = steps ≡ []
+AreStepsOf order.Settle steps = ⊥
+AreStepsOf (order.Maps user) steps = ⊥
 
 module _ {D : Type 0} (on : View D) where
   pub steps_more : (steps : List StepMade) (one : StepMade) (old mid new : World D) → MakesSteps on steps old mid → IsStep on one.result one.step mid new
@@ -72,6 +84,26 @@ module _ {D : Type 0} (on : View D) where
       by rest true so = subst (All (IsPushOf node)) (sym so) (All-nil (IsPushOf node))
       by rest false so = rest so
 
+  reports_are : (node : ℕ) (others : List ℕ) (steps : List StepMade) → StepsTo (step.Report node) others steps → All (IsReportOf node) steps
+  reports_are node [] steps none = subst (All (IsReportOf node)) (sym none) (All-nil (IsReportOf node))
+  reports_are node (to ∷ others) [] reports = All-nil (IsReportOf node)
+  reports_are node (to ∷ others) (one ∷ more) (is, ends) = All-cons (IsReportOf node) one more (to, is) (by (λ p. reports_are node others more p) (has_failed one.result) ends)
+    where
+      by : (StepsTo (step.Report node) others more → All (IsReportOf node) more) → (b : Bool) → MatchBool b (more ≡ []) (StepsTo (step.Report node) others more) → All (IsReportOf node) more
+      by rest true so = subst (All (IsReportOf node)) (sym so) (All-nil (IsReportOf node))
+      by rest false so = rest so
+
+  -- a node that is not up has no members to report to
+  members_none : (life : Option Life) → (IsUp (seen_life life) → ⊥) → members_seen (node_of_life life) ≡ 0
+  members_none None not_up = refl
+  members_none (Some (lives.Up node)) not_up = absurd (not_up tt)
+  members_none (Some lives.Down) not_up = refl
+  members_none (Some lives.Lost) not_up = refl
+
+  pub reports_none : (node : ℕ) (steps : List StepMade) (old : World D) → (IsUp (life_of old node) → ⊥) → ReportsAll old node steps → steps ≡ []
+  reports_none node steps old not_up all =
+      subst (λ (m : ℕ). StepsTo (step.Report node) (others_in node m 16) steps) (members_none (of_node (state_of old).lives node) not_up) all
+
   all_pushes : (nodes : ℕ) (life : NodeLife) (node : ℕ) (steps : List StepMade) → PushesAll nodes life node steps → All (IsPushOf node) steps
   all_pushes nodes (Up boot) node steps all = pushes_are node (nodes_but node nodes 1) steps (all.up tt)
   all_pushes nodes Down node steps all = subst (All (IsPushOf node)) (sym (all.else_none (λ up. up))) (All-nil (IsPushOf node))
@@ -97,6 +129,9 @@ module _ {D : Type 0} (on : View D) where
   order_makes (order.Conclude node) steps old new made = one_makes (step.Conclude node) steps old new made
   order_makes (order.Regroup node) steps old new made = made.1.made
   order_makes (order.Tick seconds) steps old new made = one_makes (step.Tick seconds) steps old new made
+  order_makes (order.Report node) steps old new made = made.1
+  order_makes order.Settle steps old new made = absurd made
+  order_makes (order.Maps user) steps old new made = absurd made
   order_makes order.Sum steps old new made = subst (λ (l : List StepMade). MakesSteps on l old new) (sym made.0) made.1
 
   pub order_are : (asked : ClusterOrder) (steps : List StepMade) (old new : World D) → MakesOrder on asked steps old new → AreStepsOf asked steps
@@ -113,4 +148,7 @@ module _ {D : Type 0} (on : View D) where
   order_are (order.Conclude node) steps old new made = one_is (step.Conclude node) steps old new made
   order_are (order.Regroup node) steps old new made = made.1.of
   order_are (order.Tick seconds) steps old new made = one_is (step.Tick seconds) steps old new made
+  order_are (order.Report node) steps old new made = reports_are node _ steps made.0
+  order_are order.Settle steps old new made = absurd made
+  order_are (order.Maps user) steps old new made = absurd made
   order_are order.Sum steps old new made = made.0

@@ -16,8 +16,10 @@ use Rattle.cluster_world.specs.Seen.{step_seen, outcome_seen}
 use Rattle.cluster_world.specs.Steps.{SaysSo}
 use Rattle.cluster_world.specs.Ended.{IsEnded}
 use Rattle.cluster_world.specs.Made.{StepMade, IsPost, AreOfRegroup}
+use Rattle.cluster_world.specs.Settling.{IsOfSettle, AreOfSettle}
+use Rattle.cluster_world.specs.Settling.IsOfSettle.{Posts, Pushes, Reports}
 use Rattle.cluster_world.specs.Outcomes.{IsRefusal, LeavesUnanswered}
-use Rattle.cluster_world.proofs.Ordered.{IsPushOf, AreOne, AreStepsOf}
+use Rattle.cluster_world.proofs.Ordered.{IsPushOf, IsReportOf, AreOne, AreStepsOf}
 use Rattle.cluster_world.specs.declared.step.Step.{Step}
 use Rattle.cluster_world.specs.declared.step.Step.TheVariants as step
 use Rattle.cluster_world.specs.declared.step.Said.{Said}
@@ -135,6 +137,9 @@ tick_or (order.Group node) = inr (λ is. is)
 tick_or (order.Conclude node) = inr (λ is. is)
 tick_or (order.Regroup node) = inr (λ is. is)
 tick_or (order.Tick seconds) = inl (seconds, refl)
+tick_or (order.Report node) = inr (λ is. is)
+tick_or order.Settle = inr (λ is. is)
+tick_or (order.Maps user) = inr (λ is. is)
 tick_or order.Sum = inr (λ is. is)
 
 -- the clock is set, or nothing is done
@@ -178,4 +183,16 @@ moves_quiet (order.Group node) steps other are = one_quiet (step.Group node) ste
 moves_quiet (order.Conclude node) steps other are = one_quiet (step.Conclude node) steps (λ outcome. tt, tt) are
 moves_quiet (order.Regroup node) steps other are = regroup_quiet node steps are
 moves_quiet (order.Tick seconds) steps other are = absurd (other tt)
+moves_quiet (order.Report node) steps other are = all_quiet (IsReportOf node) (λ one is. subst IsQuietStep (sym is.1) (λ outcome. tt, tt)) steps are
+moves_quiet order.Settle steps other are = absurd are
+moves_quiet (order.Maps user) steps other are = absurd are
 moves_quiet order.Sum steps other are = subst AreQuiet (sym are) tt
+
+of_settle_quiet : (one : StepMade) → IsOfSettle one → IsQuietStep one.step
+of_settle_quiet one (Posts post) = subst IsQuietStep (sym post.1) (λ outcome. tt, tt)
+of_settle_quiet one (Pushes from to apart is) = subst IsQuietStep (sym is) (λ outcome. tt, tt)
+of_settle_quiet one (Reports from to apart is) = subst IsQuietStep (sym is) (λ outcome. tt, tt)
+
+pub settle_quiet : (steps : List StepMade) → AreOfSettle steps → AreQuiet steps
+settle_quiet [] of = tt
+settle_quiet (one ∷ more) of = (of_settle_quiet one of.0, settle_quiet more of.1)

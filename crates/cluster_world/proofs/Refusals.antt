@@ -17,12 +17,12 @@ use Rattle.cluster_world.specs.Lives.{life_seen, of_node}
 use Rattle.cluster_world.specs.Stands.{SlotStands}
 use Rattle.cluster_world.specs.Worlds.{WorldState, seen_life, life_in, StateStandsFor}
 use Rattle.cluster_world.specs.Seen.{step_seen, fault_seen}
-use Rattle.cluster_world.specs.Turns.{life_refusal, actor_refusal, node_refusal}
+use Rattle.cluster_world.specs.Turns.{life_refusal, actor_refusal, nodes_of_step, node_refusal}
 use Rattle.cluster_world.proofs.Still.{some_same, both_at}
 use Rattle.cluster_world.specs.declared.life.Life.{Life}
 use Rattle.cluster_world.specs.declared.life.Life.TheVariants.{Up, Down, Lost}
 use Rattle.cluster_world.specs.declared.step.Step.{Step}
-use Rattle.cluster_world.specs.declared.step.Step.TheVariants.{Begin, Ask, GiveUp, Post, Drop, Push, Widen, Group, Conclude, Crash, Start, Lose, Tick}
+use Rattle.cluster_world.specs.declared.step.Step.TheVariants.{Begin, Ask, GiveUp, Post, Drop, Push, Widen, Group, Conclude, Report, Crash, Start, Lose, Tick}
 use Rattle.cluster_world.specs.declared.fault.StepFault.{StepFault}
 use Rattle.cluster_world.specs.declared.fault.StepFault.TheVariants as fault
 
@@ -49,6 +49,7 @@ up_alike (Push from to) boot state = tt
 up_alike (Widen at user id to) boot state = tt
 up_alike (Group node) boot state = tt
 up_alike (Conclude node) boot state = tt
+up_alike (Report from to) boot state = tt
 up_alike (Crash node) boot state = tt
 up_alike (Start node) boot state = refl
 up_alike (Lose node) boot state = tt
@@ -64,6 +65,7 @@ down_alike (Push from to) pending = refl
 down_alike (Widen at user id to) pending = refl
 down_alike (Group node) pending = refl
 down_alike (Conclude node) pending = refl
+down_alike (Report from to) pending = refl
 down_alike (Crash node) pending = refl
 down_alike (Start node) pending = tt
 down_alike (Lose node) pending = tt
@@ -149,6 +151,7 @@ module _ {D : Type 0} (on : View D) where
       actor_there (Widen at user id to) e n same = first_there at (to ∷ []) e n same
       actor_there (Group node) e n same = first_there node [] e n same
       actor_there (Conclude node) e n same = first_there node [] e n same
+      actor_there (Report from to) e n same = first_there from [] e n same
       actor_there (Crash node) e n same = first_there node [] e n same
       actor_there (Start node) e n same = first_there node [] e n same
       actor_there (Lose node) e n same = first_there node [] e n same
@@ -166,11 +169,12 @@ module _ {D : Type 0} (on : View D) where
       alike_none None (Some other) rest h e = absurd h
       alike_none (Some one) other rest h e = absurd (let never : Some one ≡ None = e in cc)
 
-      -- a refusal for the sake of a node is the machine's
-      pub named_fault : (step : Step) (rest : List (Option steps.StepFault)) (f : StepFault) → node_refusal plan (life_in state) step ≡ Some f
+      -- a refusal for the sake of a node is the machine's, where messages see all the nodes that the step names
+      pub named_fault : (step : Step) (rest : List (Option steps.StepFault)) (f : StepFault) → nodes_of_step step ≡ nodes_named (step_seen step) → node_refusal plan (life_in state) step ≡ Some f
           → (g : steps.StepFault) × (fault_seen f ≡ steps.StepOutcome.Refused g)
           × (steps.first_fault (node_name_fault plan (step_seen step) ∷ actor_fault (step_seen step) w.slots (actor_of (step_seen step)) ∷ rest) ≡ Some g)
-      named_fault step rest f e = by (list_all (is_node plan) (nodes_named (step_seen step))) (actor_there step) e
+      named_fault step rest f same e = by (list_all (is_node plan) (nodes_named (step_seen step))) (actor_there step)
+          (subst (λ ns. (if list_all (is_node plan) ns then actor_refusal step (life_in state) (actor_of (step_seen step)) else Some fault.NoSuchNode) ≡ Some f) same e)
         where
           by : (b : Bool) → (b ≡ true → (n : ℕ) → actor_of (step_seen step) ≡ Some n → (one : Life) × (of_node state.lives n ≡ Some one))
               → (if b then actor_refusal step (life_in state) (actor_of (step_seen step)) else Some fault.NoSuchNode) ≡ Some f
@@ -180,12 +184,34 @@ module _ {D : Type 0} (on : View D) where
           by false there e = (steps.StepFault.NoSuchNode, ap fault_seen (sym (some_same fault.NoSuchNode f e)), refl)
 
       -- and where there is none, the machine has none
-      pub named_none : (step : Step) (rest : List (Option steps.StepFault)) → node_refusal plan (life_in state) step ≡ None
+      pub named_none : (step : Step) (rest : List (Option steps.StepFault)) → nodes_of_step step ≡ nodes_named (step_seen step) → node_refusal plan (life_in state) step ≡ None
           → steps.first_fault (node_name_fault plan (step_seen step) ∷ actor_fault (step_seen step) w.slots (actor_of (step_seen step)) ∷ rest) ≡ steps.first_fault rest
-      named_none step rest e = by (list_all (is_node plan) (nodes_named (step_seen step))) (actor_there step) e
+      named_none step rest same e = by (list_all (is_node plan) (nodes_named (step_seen step))) (actor_there step)
+          (subst (λ ns. (if list_all (is_node plan) ns then actor_refusal step (life_in state) (actor_of (step_seen step)) else Some fault.NoSuchNode) ≡ None) same e)
         where
           by : (b : Bool) → (b ≡ true → (n : ℕ) → actor_of (step_seen step) ≡ Some n → (one : Life) × (of_node state.lives n ≡ Some one))
               → (if b then actor_refusal step (life_in state) (actor_of (step_seen step)) else Some fault.NoSuchNode) ≡ None
               → steps.first_fault ((if b then None else Some steps.StepFault.NoSuchNode) ∷ actor_fault (step_seen step) w.slots (actor_of (step_seen step)) ∷ rest) ≡ steps.first_fault rest
           by true there e = alike_none _ _ rest (actor_alike step (actor_of (step_seen step)) (there refl)) e
           by false there e = absurd (let never : Some fault.NoSuchNode ≡ None = e in cc)
+
+-- Messages see all the nodes that a step names, but of a report.
+pub data NamesSeen (step : Step) : Type 0 where
+  AllNodes : nodes_of_step step ≡ nodes_named (step_seen step) → NamesSeen step
+  OfReport : (from to : ℕ) → step ≡ Report from to → NamesSeen step
+
+pub names_seen : (step : Step) → NamesSeen step
+names_seen (Begin node call) = NamesSeen.AllNodes refl
+names_seen (Ask ticket) = NamesSeen.AllNodes refl
+names_seen (GiveUp ticket) = NamesSeen.AllNodes refl
+names_seen (Post letter keep) = NamesSeen.AllNodes refl
+names_seen (Drop letter) = NamesSeen.AllNodes refl
+names_seen (Push from to) = NamesSeen.AllNodes refl
+names_seen (Widen at user id to) = NamesSeen.AllNodes refl
+names_seen (Group node) = NamesSeen.AllNodes refl
+names_seen (Conclude node) = NamesSeen.AllNodes refl
+names_seen (Report from to) = NamesSeen.OfReport from to refl
+names_seen (Crash node) = NamesSeen.AllNodes refl
+names_seen (Start node) = NamesSeen.AllNodes refl
+names_seen (Lose node) = NamesSeen.AllNodes refl
+names_seen (Tick seconds) = NamesSeen.AllNodes refl

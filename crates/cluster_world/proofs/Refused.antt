@@ -1,11 +1,11 @@
 -- A step that is refused for the sake of a node changes nothing.
-use Rattle.std.proofs.Common.{◌≡◌, inl, ℕ, Bool, true, false, length, Option, Some, None, Err, refl, sym, ap, subst, if◌then◌else◌}
+use Rattle.std.proofs.Common.{◌≡◌, inl, inr, ℕ, Bool, true, false, length, Option, Some, None, Err, refl, sym, ap, subst, if◌then◌else◌}
 use Rattle.std.specs.Prelude.{⊤}
 use Rattle.std.specs.List.{list_all}
 use Rattle.session_model.specs.Events.{NodeLife, NodeLife as life}
 use Rattle.cluster_model.specs.World as machine
 use Rattle.cluster_model.specs.Steps as steps
-use Rattle.cluster_model.specs.Steps.{nodes_named, actor_of, is_node}
+use Rattle.cluster_model.specs.Steps.{actor_of, is_node}
 use Rattle.cluster_model.specs.Makes.{MakesStep}
 use Rattle.whole_world.specs.Makes as whole_makes
 use Rattle.whole_world.specs.Steps as whole_steps
@@ -13,17 +13,17 @@ use Rattle.whole_world.specs.World as whole_world
 use Rattle.whole_world.specs.World.{mail_world_of}
 use Rattle.node_store.specs.Disks.{View}
 use Rattle.cluster_world.specs.Seen.{step_seen, fault_seen, whole_step, whole_fault}
-use Rattle.cluster_world.specs.Turns.{life_refusal, actor_refusal, node_refusal}
+use Rattle.cluster_world.specs.Turns.{life_refusal, actor_refusal, nodes_of_step, node_refusal}
 use Rattle.cluster_world.specs.Worlds.{WorldState, life_in, tells_in, StateStandsFor}
 use Rattle.cluster_world.specs.Steps.{StepDid}
 use Rattle.cluster_world.specs.Sure.{IsSurelyDone}
 use Rattle.cluster_world.specs.declared.step.Step.{Step}
-use Rattle.cluster_world.specs.declared.step.Step.TheVariants.{Begin, Ask, GiveUp, Post, Drop, Push, Widen, Group, Conclude, Crash, Start, Lose, Tick}
+use Rattle.cluster_world.specs.declared.step.Step.TheVariants.{Begin, Ask, GiveUp, Post, Drop, Push, Widen, Group, Conclude, Report, Crash, Start, Lose, Tick}
 use Rattle.cluster_world.specs.declared.fault.StepFault.{StepFault}
 use Rattle.cluster_world.specs.declared.fault.StepFault.TheVariants as fault
 use Rattle.cluster_world.proofs.Clocks.{unticked}
 use Rattle.cluster_world.proofs.Same.{led_same, same_told, same_quiet, same_unchanged}
-use Rattle.cluster_world.proofs.Refusals.{named_fault}
+use Rattle.cluster_world.proofs.Refusals.{named_fault, NamesSeen, names_seen}
 use Rattle.cluster_world.proofs.Longer.{same_book}
 use Rattle.cluster_world.proofs.WholeFaults.{whole_refuses}
 
@@ -50,6 +50,7 @@ life_of_node (Push from to) (life.Up boot) = tt
 life_of_node (Widen at user id to) (life.Up boot) = tt
 life_of_node (Group node) (life.Up boot) = tt
 life_of_node (Conclude node) (life.Up boot) = tt
+life_of_node (Report from to) (life.Up boot) = tt
 life_of_node (Crash node) (life.Up boot) = tt
 life_of_node (Start node) (life.Up boot) = tt
 life_of_node (Lose node) (life.Up boot) = tt
@@ -63,6 +64,7 @@ life_of_node (Push from to) life.Down = tt
 life_of_node (Widen at user id to) life.Down = tt
 life_of_node (Group node) life.Down = tt
 life_of_node (Conclude node) life.Down = tt
+life_of_node (Report from to) life.Down = tt
 life_of_node (Crash node) life.Down = tt
 life_of_node (Start node) life.Down = tt
 life_of_node (Lose node) life.Down = tt
@@ -73,7 +75,7 @@ actor_of_node step lives None = tt
 actor_of_node step lives (Some n) = life_of_node step (lives n)
 
 refusal_of_node : (plan : _) (lives : ℕ → NodeLife) (step : Step) → OfNode (node_refusal plan lives step)
-refusal_of_node plan lives step = by (list_all (is_node plan) (nodes_named (step_seen step)))
+refusal_of_node plan lives step = by (list_all (is_node plan) (nodes_of_step step))
   where
     by : (b : Bool) → OfNode (if b then actor_refusal step lives (actor_of (step_seen step)) else Some fault.NoSuchNode)
     by true = actor_of_node step lives (actor_of (step_seen step))
@@ -84,9 +86,28 @@ same_fault f g e = cc
 
 module _ {D : Type 0} (on : View D) (state : WorldState D) (even : length state.disks ≡ length state.lives) (within : length state.lives ≡ state.plan.nodes) (step : Step) where
   made_refused : (f : StepFault) (w : machine.World) → StateStandsFor on state w → node_refusal state.plan (life_in state) step ≡ Some f → MakesStep state.plan (tells_in on.seen state) w (step_seen step) (fault_seen f) w
-  made_refused f w s e =
-      let (g, is, first) = named_fault on state.plan state w even s within step _ f e in
-      subst (λ o. MakesStep state.plan (tells_in on.seen state) w (step_seen step) o w) (sym is) (inl (inl first), refl)
+  made_refused f w s e = by (names_seen step)
+    where
+      -- a report is seen as a step that may always be refused
+      reported : (from : ℕ) (f : StepFault) → IsOfNode f → MakesStep state.plan (tells_in on.seen state) w (steps.Step.Form from) (fault_seen f) w
+      reported from fault.NoSuchNode of = (inr tt, refl)
+      reported from fault.NodeLost of = (inr tt, refl)
+      reported from fault.NodeDown of = (inr tt, refl)
+      reported from fault.NodeUp of = (inr tt, refl)
+      reported from fault.NoSuchLetter of = absurd of
+      reported from fault.NoSuchTicket of = absurd of
+      reported from fault.NotAGroup of = absurd of
+      reported from fault.Worn of = absurd of
+      reported from fault.NoRoom of = absurd of
+      reported from (fault.NoMemory down) of = absurd of
+
+      by : NamesSeen step → MakesStep state.plan (tells_in on.seen state) w (step_seen step) (fault_seen f) w
+      by (NamesSeen.AllNodes same) =
+          let (g, is, first) = named_fault on state.plan state w even s within step _ f same e in
+          subst (λ o. MakesStep state.plan (tells_in on.seen state) w (step_seen step) o w) (sym is) (inl (inl first), refl)
+      by (NamesSeen.OfReport from to is) =
+          subst (λ x. MakesStep state.plan (tells_in on.seen state) w (step_seen x) (fault_seen f) w) (sym is)
+          (reported from f (subst OfNode e (refusal_of_node state.plan (life_in state) step)))
 
   -- as the whole machine says it
   told_so : (f : StepFault) (g : steps.StepFault) → IsOfNode f → fault_seen f ≡ steps.StepOutcome.Refused g → whole_fault f ≡ whole_steps.StepOutcome.Refused (whole_steps.StepFault.Fault g)
@@ -221,6 +242,7 @@ module _ {D : Type 0} (state : WorldState D) where
   sure_by (Widen at user id to) f of e = tt
   sure_by (Group node) f of e = tt
   sure_by (Conclude node) f of e = tt
+  sure_by (Report from to) f of e = tt
   sure_by (Start node) f of e = tt
 
   pub refused_sure : (step : Step) (f : StepFault) → node_refusal state.plan (life_in state) step ≡ Some f → IsSurelyDone state step (Err f)

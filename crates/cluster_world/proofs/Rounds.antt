@@ -10,7 +10,7 @@ use Rattle.cluster_world.specs.Turns.{node_refusal}
 use Rattle.cluster_world.specs.Flights.{AreInOrder}
 use Rattle.cluster_world.specs.Worlds.{state_of, plan_of, life_of, CanMakeSteps}
 use Rattle.cluster_world.specs.Made.{StepMade, MakesSteps, IsPost, IsOfRegroup, AreOfRegroup, has_failed}
-use Rattle.cluster_world.specs.Regroups.{AllWentOn, IsOfRound, AreOfRounds, AllPost, BeginsByGroup, FormsBy, EndsBy, posts_behind, threw_old, sent_in, ArePosted, AreAllPosted, IsRound, IsSecondRound, IsConclusion, IsInOrder, is_worn_at, halted, Halts, StepsOn, PostsOn, AsksOn, ConcludesOn, FormsOn, AsksAgain, RegroupsSo, LacksRoom, BeginsWithRoom, has_room_for_rounds, is_old, failed_in, ended, HasRegrouped, FormsInOrder}
+use Rattle.cluster_world.specs.Regroups.{AllWentOn, IsOfRound, AreOfRounds, AllPost, BeginsByGroup, FormsBy, EndsBy, posts_behind, threw_old, sent_in, ArePosted, AreAllPosted, IsRound, IsSecondRound, IsConclusion, IsInOrder, group_is_worn, halted, Halts, StepsOn, PostsOn, AsksOn, ConcludesOn, FormsOn, AsksAgain, RegroupsSo, LacksRoom, BeginsWithRoom, has_room_for_rounds, is_old, failed_in, ended, HasRegrouped, FormsInOrder}
 use Rattle.cluster_world.specs.declared.world.World.{World}
 use Rattle.cluster_world.specs.declared.step.Step.{Step}
 use Rattle.cluster_world.specs.declared.step.Step.TheVariants as step
@@ -25,7 +25,7 @@ use Rattle.cluster_world.specs.declared.regrouping.Halt.TheVariants as halt
 use Rattle.cluster_world.proofs.Formed.{forms_the_up}
 
 -- lists of steps, one behind the other
-went_on_more : (xs ys : List StepMade) → AllWentOn xs → AllWentOn ys → AllWentOn (xs ++ ys)
+pub went_on_more : (xs ys : List StepMade) → AllWentOn xs → AllWentOn ys → AllWentOn (xs ++ ys)
 went_on_more [] ys a b = b
 went_on_more (x ∷ xs) ys (one, more) b = (one, went_on_more xs ys more b)
 
@@ -37,7 +37,7 @@ rounds_more : (n : ℕ) (xs ys : List StepMade) → AreOfRounds n xs → AreOfRo
 rounds_more n [] ys a b = b
 rounds_more n (x ∷ xs) ys (one, more) b = (one, rounds_more n xs ys more b)
 
-post_more : (xs ys : List StepMade) → AllPost xs → AllPost ys → AllPost (xs ++ ys)
+pub post_more : (xs ys : List StepMade) → AllPost xs → AllPost ys → AllPost (xs ++ ys)
 post_more [] ys a b = b
 post_more (x ∷ xs) ys (one, more) b = (one, post_more xs ys more b)
 
@@ -330,7 +330,7 @@ module _ {D : Type 0} (on : View D) where
   -- the whole
   pub WasRoomy : ℕ → World D → Type 0
   WasRoomy n old =
-      node_refusal (plan_of old) (life_of old) (step.Group n) ≡ None → is_worn_at n (state_of old) ≡ false → has_room_for_rounds (plan_of old).nodes (state_of old).flying.flights ≡ true
+      node_refusal (plan_of old) (life_of old) (step.Group n) ≡ None → group_is_worn n (state_of old) ≡ false → has_room_for_rounds (plan_of old).nodes (state_of old).flying.flights ≡ true
 
   was_roomy : (n : ℕ) (old : World D) (steps : List StepMade) → WasRoomy n old → BeginsWithRoom n steps old
   unfolding WasRoomy
@@ -340,13 +340,13 @@ module _ {D : Type 0} (on : View D) where
   -- whether it is refused for want of room
   abbrev pub is_lacking : ℕ → World D → Bool
   is_lacking n old =
-      (not (is_some (node_refusal (plan_of old) (life_of old) (step.Group n))) && not (is_worn_at n (state_of old))) && not (has_room_for_rounds (plan_of old).nodes (state_of old).flying.flights)
+      (not (is_some (node_refusal (plan_of old) (life_of old) (step.Group n))) && not (group_is_worn n (state_of old))) && not (has_room_for_rounds (plan_of old).nodes (state_of old).flying.flights)
 
   pub roomy : (n : ℕ) (old : World D) (lacks : Bool) → lacks ≡ is_lacking n old → lacks ≡ false → WasRoomy n old
   unfolding WasRoomy
   roomy n old lacks is lacking none fresh = with_room (has_room_for_rounds (plan_of old).nodes (state_of old).flying.flights)
       (ap (λ (w : Bool). not w && not (has_room_for_rounds (plan_of old).nodes (state_of old).flying.flights)) (sym fresh)
-      ∙ ap (λ (o : Option StepFault). (not (is_some o) && not (is_worn_at n (state_of old))) && not (has_room_for_rounds (plan_of old).nodes (state_of old).flying.flights)) (sym none)
+      ∙ ap (λ (o : Option StepFault). (not (is_some o) && not (group_is_worn n (state_of old))) && not (has_room_for_rounds (plan_of old).nodes (state_of old).flying.flights)) (sym none)
       ∙ sym is ∙ lacking)
     where
       with_room : (b : Bool) → not b ≡ false → b ≡ true
@@ -420,14 +420,14 @@ module _ {D : Type 0} (on : View D) where
   pub lacks_room : (n : ℕ) (old : World D) (lacks : Bool) → lacks ≡ is_lacking n old → lacks ≡ true → HasRegrouped on n (Err fault.NoRoom) old old
   lacks_room n old lacks is lacking =
       let fits = not (is_some (node_refusal (plan_of old) (life_of old) (step.Group n))) in
-      let fresh = not (is_worn_at n (state_of old)) in
+      let fresh = not (group_is_worn n (state_of old)) in
       let both = and_parts (fits && fresh) (not (has_room_for_rounds (plan_of old).nodes (state_of old).flying.flights)) (sym is ∙ lacking) in
       let begins = and_parts fits fresh both.0 in
       has_no_room n old (record {
         none = refl;
         is = refl;
         fit = no_refusal (node_refusal (plan_of old) (life_of old) (step.Group n)) begins.0;
-        fresh = not_so (is_worn_at n (state_of old)) begins.1;
+        fresh = not_so (group_is_worn n (state_of old)) begins.1;
         lacking = not_so (has_room_for_rounds (plan_of old).nodes (state_of old).flying.flights) both.1;
       })
 

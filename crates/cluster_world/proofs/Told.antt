@@ -39,9 +39,11 @@ pub refused_on : (plan : Plan) (v : whole_world.World) (one : mail_steps.Step) (
     → (whole_steps.step_fault plan (whole_steps.Step.OfMessages one) v ≡ Some (whole_steps.StepFault.Fault fault))
     ⊎ ((whole_steps.step_fault plan (whole_steps.Step.OfMessages one) v ≡ None) × (whole_steps.StepFault.Fault fault ≡ whole_steps.StepFault.Fault mail_steps.StepFault.Worn)
     × whole_makes.StartIsWorn v (whole_steps.Step.OfMessages one))
+    ⊎ ((whole_steps.step_fault plan (whole_steps.Step.OfMessages one) v ≡ None) × (whole_steps.StepFault.Fault fault ≡ whole_steps.StepFault.Fault mail_steps.StepFault.NoRoom)
+    × whole_makes.ReportHasNoRoom v (whole_steps.Step.OfMessages one))
 refused_on plan v one fault sees why = ⊎_elim
     (λ told_why. ⊎_elim (λ faults. inl (ap (option_map whole_steps.StepFault.Fault) faults))
-    (λ (goes, worn, start). inr (ap (option_map whole_steps.StepFault.Fault) goes, ap whole_steps.StepFault.Fault worn, start)) told_why)
+    (λ (goes, worn, start). inr (inl (ap (option_map whole_steps.StepFault.Fault) goes, ap whole_steps.StepFault.Fault worn, start))) told_why)
     (λ unseen. absurd (sees unseen))
     why
 

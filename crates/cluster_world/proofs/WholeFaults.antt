@@ -2,9 +2,10 @@
 use Rattle.std.proofs.Common.{◌≡◌, inl, ℕ, Bool, true, false, ◌&&◌, List, [], ◌∷◌, length, Option, Some, None, Err, refl, sym, ap, ◌∙◌, subst, if◌then◌else◌}
 use Rattle.std.specs.Option.{option_map}
 use Rattle.mail_model.specs.Plan.{Plan}
+use Rattle.session_model.specs.Events.{NodeLife, NodeLife as life}
 use Rattle.cluster_model.specs.Cluster as plain
 use Rattle.cluster_model.specs.Steps as steps
-use Rattle.cluster_model.specs.Steps.{is_node, slot_fault, life_fault}
+use Rattle.cluster_model.specs.Steps.{nodes_named, is_node, slot_fault, life_fault}
 use Rattle.cluster_model.specs.World as machine
 use Rattle.whole_world.specs.Makes as whole_makes
 use Rattle.whole_world.specs.Steps as whole_steps
@@ -13,12 +14,12 @@ use Rattle.whole_world.specs.World as whole_world
 use Rattle.whole_world.specs.World.{mail_world_of}
 use Rattle.node_store.specs.Disks.{View}
 use Rattle.cluster_world.specs.Seen.{step_seen, fault_seen, whole_step, whole_fault}
-use Rattle.cluster_world.specs.Turns.{node_refusal}
+use Rattle.cluster_world.specs.Turns.{life_refusal, nodes_of_step, node_refusal}
 use Rattle.cluster_world.specs.Worlds.{WorldState, life_in, StateStandsFor}
 use Rattle.cluster_world.specs.declared.fault.StepFault.{StepFault}
 use Rattle.cluster_world.specs.declared.fault.StepFault.TheVariants as fault
 use Rattle.cluster_world.specs.declared.step.Step.{Step}
-use Rattle.cluster_world.specs.declared.step.Step.TheVariants.{Begin, Ask, GiveUp, Post, Drop, Push, Widen, Group, Conclude, Crash, Start, Lose, Tick}
+use Rattle.cluster_world.specs.declared.step.Step.TheVariants.{Begin, Ask, GiveUp, Post, Drop, Push, Widen, Group, Conclude, Report, Crash, Start, Lose, Tick}
 use Rattle.cluster_world.proofs.Still.{some_same}
 use Rattle.cluster_world.proofs.Refusals.{named_fault, named_none}
 
@@ -71,11 +72,29 @@ module _ {D : Type 0} (on : View D) (plan : Plan) (state : WorldState D) (even :
   -- a group and a conclusion that no node stands against
   pub group_fits : (n : ℕ) (rest : List (Option whole_steps.StepFault)) → node_refusal plan (life_in state) (Group n) ≡ None
       → first_refusal (node_fault plan (n ∷ []) ∷ option_map Fault (actor_fault n v) ∷ rest) ≡ first_refusal rest
-  group_fits n rest fit = form_fits n rest (named_none on plan state w even st within (Group n) [] fit)
+  group_fits n rest fit = form_fits n rest (named_none on plan state w even st within (Group n) [] refl fit)
 
   pub conclude_fits : (n : ℕ) (rest : List (Option whole_steps.StepFault)) → node_refusal plan (life_in state) (Conclude n) ≡ None
       → first_refusal (node_fault plan (n ∷ []) ∷ option_map Fault (actor_fault n v) ∷ rest) ≡ first_refusal rest
-  conclude_fits n rest fit = form_fits n rest (named_none on plan state w even st within (Conclude n) [] fit)
+  conclude_fits n rest fit = form_fits n rest (named_none on plan state w even st within (Conclude n) [] refl fit)
+
+  -- a report that no node stands against
+  pub report_fits : (from to : ℕ) (rest : List (Option whole_steps.StepFault)) → node_refusal plan (life_in state) (Report from to) ≡ None
+      → first_refusal (node_fault plan (from ∷ to ∷ []) ∷ option_map Fault (actor_fault from v) ∷ rest) ≡ first_refusal rest
+  report_fits from to rest fit = by (is_node plan from) (is_node plan to) (life_refusal (Report from to) (life_in state from)) (option_map Fault (actor_fault from v)) fit
+      (λ fits. group_fits from rest (as_group_fits (is_node plan from) (life_in state from) fits))
+    where
+      as_group_fits : (b : Bool) (one : NodeLife) → (if b && true then life_refusal (Report from to) one else Some fault.NoSuchNode) ≡ None → (if b && true then life_refusal (Group from) one else Some fault.NoSuchNode) ≡ None
+      as_group_fits b (life.Up boot) e = e
+      as_group_fits b life.Down e = e
+      as_group_fits b life.Lost e = e
+
+      by : (b c : Bool) (one : Option StepFault) (o : Option whole_steps.StepFault) → (if b && (c && true) then one else Some fault.NoSuchNode) ≡ None
+          → ((if b && true then one else Some fault.NoSuchNode) ≡ None → first_refusal ((if b then None else Some (Fault steps.StepFault.NoSuchNode)) ∷ o ∷ rest) ≡ first_refusal rest)
+          → first_refusal ((if b then (if c then None else Some (Fault steps.StepFault.NoSuchNode)) else Some (Fault steps.StepFault.NoSuchNode)) ∷ o ∷ rest) ≡ first_refusal rest
+      by true true one o e so = so e
+      by true false one o e so = absurd (let never : Some fault.NoSuchNode ≡ None = e in cc)
+      by false c one o e so = absurd (let never : Some fault.NoSuchNode ≡ None = e in cc)
 
   -- the machine for messages refuses the step so, and the whole machine does
   pub record Refuses (step : Step) (f : StepFault) : Type 0 where
@@ -83,9 +102,9 @@ module _ {D : Type 0} (on : View D) (plan : Plan) (state : WorldState D) (even :
     pub is : fault_seen f ≡ steps.StepOutcome.Refused g
     pub first : whole_steps.step_fault plan (whole_step step) v ≡ Some (Fault g)
 
-  of_mail : (step : Step) (f : StepFault) → whole_step step ≡ whole_steps.Step.OfMessages (step_seen step) → node_refusal plan (life_in state) step ≡ Some f → Refuses step f
-  of_mail step f mail e =
-      let (g, is, first) = named_fault on plan state w even st within step _ f e in
+  of_mail : (step : Step) (f : StepFault) → whole_step step ≡ whole_steps.Step.OfMessages (step_seen step) → nodes_of_step step ≡ nodes_named (step_seen step) → node_refusal plan (life_in state) step ≡ Some f → Refuses step f
+  of_mail step f mail same e =
+      let (g, is, first) = named_fault on plan state w even st within step _ f same e in
       let here : steps.step_fault plan (step_seen step) w ≡ Some g = first in
       record {
         g = g;
@@ -93,21 +112,44 @@ module _ {D : Type 0} (on : View D) (plan : Plan) (state : WorldState D) (even :
         first = ap (λ s. whole_steps.step_fault plan s v) mail ∙ ap (option_map Fault) (ap (steps.step_fault plan (step_seen step)) seen ∙ here);
       }
 
+  -- a report is refused as a group of the same node is, or since there is no such manager
+  abbrev RefusedSo : StepFault → Option whole_steps.StepFault → Type 0
+  RefusedSo f o = (g : steps.StepFault) × (fault_seen f ≡ steps.StepOutcome.Refused g) × (o ≡ Some (Fault g))
+
+  second_named : (f : StepFault) (b c : Bool) (one : Option StepFault) (o : Option whole_steps.StepFault) (rest : List (Option whole_steps.StepFault)) → (if b && (c && true) then one else Some fault.NoSuchNode) ≡ Some f
+      → ((if b && true then one else Some fault.NoSuchNode) ≡ Some f → RefusedSo f (first_refusal ((if b then None else Some (Fault steps.StepFault.NoSuchNode)) ∷ o ∷ rest)))
+      → RefusedSo f (first_refusal ((if b then (if c then None else Some (Fault steps.StepFault.NoSuchNode)) else Some (Fault steps.StepFault.NoSuchNode)) ∷ o ∷ rest))
+  second_named f true true one o rest e so = so e
+  second_named f true false one o rest e so = (steps.StepFault.NoSuchNode, ap fault_seen (sym (some_same fault.NoSuchNode f e)), refl)
+  second_named f false c one o rest e so = (steps.StepFault.NoSuchNode, ap fault_seen (sym (some_same fault.NoSuchNode f e)), refl)
+
+  as_group : (from to : ℕ) (f : StepFault) (b : Bool) (one : NodeLife) → (if b && true then life_refusal (Report from to) one else Some fault.NoSuchNode) ≡ Some f → (if b && true then life_refusal (Group from) one else Some fault.NoSuchNode) ≡ Some f
+  as_group from to f b (life.Up boot) e = e
+  as_group from to f b life.Down e = e
+  as_group from to f b life.Lost e = e
+
+  report_refused : (from to : ℕ) (f : StepFault) → node_refusal plan (life_in state) (Report from to) ≡ Some f → Refuses (Report from to) f
+  report_refused from to f e =
+      let (g, is, first) = second_named f (is_node plan from) (is_node plan to) (life_refusal (Report from to) (life_in state from)) (option_map Fault (actor_fault from v)) _ e
+      (λ refused. let (g, is, first) = named_fault on plan state w even st within (Group from) [] f refl (as_group from to f (is_node plan from) (life_in state from) refused) in (g, is, form_refused from _ g first)) in
+      record { g = g; is = is; first = first }
+
   pub whole_refuses : (step : Step) (f : StepFault) → node_refusal plan (life_in state) step ≡ Some f → Refuses step f
-  whole_refuses (Begin node call) f e = of_mail (Begin node call) f refl e
-  whole_refuses (Ask ticket) f e = of_mail (Ask ticket) f refl e
-  whole_refuses (GiveUp ticket) f e = of_mail (GiveUp ticket) f refl e
-  whole_refuses (Post letter keep) f e = of_mail (Post letter keep) f refl e
-  whole_refuses (Drop letter) f e = of_mail (Drop letter) f refl e
-  whole_refuses (Push from to) f e = of_mail (Push from to) f refl e
-  whole_refuses (Widen at user id to) f e = of_mail (Widen at user id to) f refl e
-  whole_refuses (Crash node) f e = of_mail (Crash node) f refl e
-  whole_refuses (Start node) f e = of_mail (Start node) f refl e
-  whole_refuses (Lose node) f e = of_mail (Lose node) f refl e
-  whole_refuses (Tick seconds) f e = of_mail (Tick seconds) f refl e
+  whole_refuses (Begin node call) f e = of_mail (Begin node call) f refl refl e
+  whole_refuses (Ask ticket) f e = of_mail (Ask ticket) f refl refl e
+  whole_refuses (GiveUp ticket) f e = of_mail (GiveUp ticket) f refl refl e
+  whole_refuses (Post letter keep) f e = of_mail (Post letter keep) f refl refl e
+  whole_refuses (Drop letter) f e = of_mail (Drop letter) f refl refl e
+  whole_refuses (Push from to) f e = of_mail (Push from to) f refl refl e
+  whole_refuses (Widen at user id to) f e = of_mail (Widen at user id to) f refl refl e
+  whole_refuses (Crash node) f e = of_mail (Crash node) f refl refl e
+  whole_refuses (Start node) f e = of_mail (Start node) f refl refl e
+  whole_refuses (Lose node) f e = of_mail (Lose node) f refl refl e
+  whole_refuses (Tick seconds) f e = of_mail (Tick seconds) f refl refl e
   whole_refuses (Group n) f e =
-      let (g, is, first) = named_fault on plan state w even st within (Group n) [] f e in
+      let (g, is, first) = named_fault on plan state w even st within (Group n) [] f refl e in
       record { g = g; is = is; first = form_refused n _ g first }
   whole_refuses (Conclude n) f e =
-      let (g, is, first) = named_fault on plan state w even st within (Conclude n) [] f e in
+      let (g, is, first) = named_fault on plan state w even st within (Conclude n) [] f refl e in
       record { g = g; is = is; first = form_refused n _ g first }
+  whole_refuses (Report from to) f e = report_refused from to f e

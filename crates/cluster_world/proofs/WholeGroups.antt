@@ -52,7 +52,7 @@ module _ {D : Type 0} (on : View D) (n : ℕ) (old : Nodes D) (flying : InFlight
       → whole_makes.MakesStep old.plan (tells_in on.seen before) v (whole_step s) (whole_fault why) v
 
   module _ (w : machine.World) (st : StateStandsFor on before w) (v : whole_world.World) (seen : mail_world_of v ≡ w) where
-    late_is : (late : Bool) → nat_le letters_end flying.sent ≡ late → nat_le letters_end v.sent ≡ late
+    pub late_is : (late : Bool) → nat_le letters_end flying.sent ≡ late → nat_le letters_end v.sent ≡ late
     late_is late e = ap (λ (x : machine.World). nat_le letters_end x.sent) seen ∙ ap (nat_le letters_end) (sym st.sent) ∙ e
 
     crowded_is : (count : ℕ) (crowded : Bool) → nat_lt (room_left flying.flights) count ≡ crowded → nat_lt (room_left v.flying) count ≡ crowded

@@ -26,9 +26,12 @@ use Rattle.whole_world.specs.First.{first_world}
 use Rattle.whole_world.specs.Laws.{Stands}
 use Rattle.whole_world.specs.Makes.{MakesStep}
 use Rattle.whole_world.specs.Settled.{IsKnownEpoch, unopened_world}
+use Rattle.whole_world.specs.Sweeps.{IsCharted}
 use Rattle.whole_world.specs.World as whole_world
 use Rattle.whole_world.specs.World.{mail_world_of}
 use Rattle.whole_world.proofs.Along.{up_slot}
+use Rattle.whole_world.proofs.Charting.{all_chart, opens_charted}
+use Rattle.whole_world.proofs.FirstSettled.{first_charted}
 use Rattle.whole_world.proofs.InFirst.{first_stands}
 use Rattle.whole_world.proofs.Opening.{opens}
 use Rattle.whole_world.proofs.Settling.{one_map_per_epoch as one_map}
@@ -45,10 +48,11 @@ use Rattle.cluster_world.specs.Lives.{of_node}
 use Rattle.cluster_world.specs.Maps.{AreMaps, StandsForWhole}
 use Rattle.cluster_world.specs.Made.{StepMade, MakesSteps}
 use Rattle.cluster_world.specs.Outcomes.{Outcome, Awaited, MakesOrder, Came, Makes, IsLeave}
-use Rattle.cluster_world.specs.Outcomes.Outcome.{Began, Refused, Fell, Broke, Answers, StillPending, Unanswered, GaveUp, Abandoned, KeptUp, Left, Moved}
+use Rattle.cluster_world.specs.Outcomes.Outcome.{Began, Refused, Fell, Broke, Answers, StillPending, Unanswered, GaveUp, Abandoned, KeptUp, Left, Moved, Settling, Mapped}
 use Rattle.cluster_world.specs.Owing.{AreBlind, IsOfBlind, AllBlind, IsOfSession, AreOfSessions}
 use Rattle.cluster_world.specs.Seen.{whole_step, whole_outcome}
 use Rattle.cluster_world.specs.Steps.{IsBlind, IsStep}
+use Rattle.cluster_world.specs.Settling.{AreOfSettle}
 use Rattle.cluster_world.specs.Sound.{IsWhole}
 use Rattle.cluster_world.specs.Wholes.{WorldIsWhole, IsKnownIn, HasOneMap, OneMapPerEpoch}
 use Rattle.cluster_world.specs.Worlds.{WorldState, state_of, disks_tell, StateStandsFor}
@@ -63,7 +67,7 @@ use Rattle.cluster_world.proofs.Ended.{sound_ended}
 use Rattle.cluster_world.proofs.Lasting.{up_there}
 use Rattle.cluster_world.proofs.Mirrors.{IsOf}
 use Rattle.cluster_world.proofs.Ordered.{order_makes, order_are}
-use Rattle.cluster_world.proofs.Quietly.{AreQuiet, moves_quiet, tick_or}
+use Rattle.cluster_world.proofs.Quietly.{AreQuiet, moves_quiet, settle_quiet, tick_or}
 use Rattle.cluster_world.proofs.Still.{some_same}
 
 -- whoever manages in a map that was assigned is a member
@@ -88,7 +92,7 @@ first_managers plan some user manager h =
     (bucket_at user (length (first_map plan))) manager h
 
 -- A cluster that opens in its first epoch is sound, and so is one of no nodes.
-first_world_stands : (plan : Plan) → plan.nodes ≤ 64 → Stands plan (first_world plan.nodes (first_map plan)) × (mail_world_of (first_world plan.nodes (first_map plan)) ≡ opening_world plan.nodes (first_map plan))
+pub first_world_stands : (plan : Plan) → plan.nodes ≤ 64 → Stands plan (first_world plan.nodes (first_map plan)) × (mail_world_of (first_world plan.nodes (first_map plan)) ≡ opening_world plan.nodes (first_map plan))
 first_world_stands plan few = by plan.nodes refl
   where
     by : (nodes : ℕ) → plan.nodes ≡ nodes → Stands plan (first_world plan.nodes (first_map plan)) × (mail_world_of (first_world plan.nodes (first_map plan)) ≡ opening_world plan.nodes (first_map plan))
@@ -97,6 +101,16 @@ first_world_stands plan few = by plan.nodes refl
       subst (λ (k : ℕ). mail_world_of (first_world k (first_map plan)) ≡ opening_world k (first_map plan)) (sym e) refl,
     )
     by (suc k) e = let some : 1 ≤ plan.nodes = omega (arith, e) in first_stands plan (first_map plan) some few (first_managers plan some)
+
+-- and settling can count on it
+pub first_world_charted : (plan : Plan) → 0 < plan.buckets → IsCharted plan (first_world plan.nodes (first_map plan))
+first_world_charted plan some = by plan.nodes refl
+  where
+    by : (nodes : ℕ) → plan.nodes ≡ nodes → IsCharted plan (first_world plan.nodes (first_map plan))
+    by zero e = subst (λ (k : ℕ). IsCharted plan (first_world k (first_map plan))) (sym e) (subst (λ (k : ℕ). IsCharted plan (unopened_world k)) e (opens_charted plan))
+    by (suc k) e =
+        let nodes : 1 ≤ plan.nodes = omega (arith, e) in
+        first_charted plan (first_map plan) (some_map [] (first_members plan.nodes) plan.buckets first_epoch (first_some plan.nodes nodes)).size some
 
 -- a user's leave hands no message in
 leave_ended : (user : List ℕ) (begun : WorldCall) → IsLeave user begun → IsTextEnded (machine_call begun)
@@ -138,12 +152,13 @@ module _ {D : Type 0} (on : View D) where
     pub record StepsWhole (result : Result Said StepFault) (made_step : Step) (new : World D) (v : whole_world.World) : Type 0 where
       pub now : whole_world.World
       pub sound : Stands plan now
+      pub charted : IsCharted plan now
       pub stands : StandsForWhole on (state_of new) now
       pub made : MakesStep plan told v (whole_step made_step) (whole_outcome result) now
 
     pub step_whole : (result : Result Said StepFault) (step : Step) (old new : World D) → IsOf on plan told old → (told ≡ true) ⊎ IsBlind plan.nodes step → IsEnded step → IsStep on result step old new
-        → (v : whole_world.World) → Stands plan v → StandsForWhole on (state_of old) v → StepsWhole result step new v
-    step_whole result step old new of known ended is v sound stands =
+        → (v : whole_world.World) → Stands plan v → IsCharted plan v → StandsForWhole on (state_of old) v → StepsWhole result step new v
+    step_whole result step old new of known ended is v sound charted stands =
         let l = is.did.leads (⊎_elim (λ t. inl (of.told_is ∙ t)) (λ b. inr (subst (λ (p : Plan). IsBlind p.nodes step) (sym of.plan_is) b)) known) ended (mail_world_of v) stands.mail in
         let w = l.whole v refl (subst (λ (p : Plan). Stands p v) (sym of.plan_is) sound) stands.maps in
         let made : MakesStep plan told v (whole_step step) (whole_outcome result) w.now = subst (λ t. MakesStep plan t v (whole_step step) (whole_outcome result) w.now) of.told_is
@@ -151,6 +166,7 @@ module _ {D : Type 0} (on : View D) where
         record {
           now = w.now;
           sound = all_stand plan told v w.now (record { step = whole_step step; outcome = whole_outcome result } ∷ []) (w.now, made, refl) sound;
+          charted = all_chart plan told v w.now (record { step = whole_step step; outcome = whole_outcome result } ∷ []) (w.now, made, refl) sound charted;
           stands = record { mail = subst (StateStandsFor on (state_of new)) (sym w.seen) l.stands; maps = w.maps };
           made = made;
         }
@@ -160,7 +176,7 @@ module _ {D : Type 0} (on : View D) where
 
     whole_on : (result : Result Said StepFault) (step : Step) (old new : World D) → IsOf on plan told old → (told ≡ true) ⊎ IsBlind plan.nodes step → IsEnded step → IsStep on result step old new
         → IsWhole on plan old → IsWhole on plan new
-    whole_on result step old new of known ended is h = let s = step_whole result step old new of known ended is h.v h.sound h.stands in record { v = s.now; sound = s.sound; stands = s.stands }
+    whole_on result step old new of known ended is h = let s = step_whole result step old new of known ended is h.v h.sound h.charted h.stands in record { v = s.now; sound = s.sound; charted = s.charted; stands = s.stands }
 
     first_known : (one : StepMade) (more : List StepMade) → (told ≡ true) ⊎ AreBlind plan.nodes (one ∷ more) → (told ≡ true) ⊎ IsBlind plan.nodes one.step
     first_known one more (inl t) = inl t
@@ -198,6 +214,9 @@ module _ {D : Type 0} (on : View D) where
         (λ (seconds, same). ticks_whole seconds made old new of (subst (λ (o : ClusterOrder). MakesOrder on o made old new) same makes) h)
         (λ other. all_whole made old new of (moves_quiet asked made other (order_are on asked made old new makes)) known (order_makes on asked made old new makes) h)
         (tick_or asked)
+    came_whole lines (Settling result made) awaited left old new of known session (makes, are, left_is) h =
+        all_whole made old new of (settle_quiet made (subst AreOfSettle are makes.of)) known (subst (λ (l : List StepMade). MakesSteps on l old new) are makes.made) h
+    came_whole lines (Mapped user told_map) awaited left old new of known session (told_is, left_is, same) h = subst (IsWhole on plan) (sym same) h
 
     first_blind : (one : Outcome) (more : List Outcome) → (told ≡ true) ⊎ AllBlind plan.nodes (one ∷ more) → (told ≡ true) ⊎ IsOfBlind plan.nodes one
     first_blind one more (inl t) = inl t
@@ -223,6 +242,7 @@ module _ {D : Type 0} (on : View D) where
       let begins : IsWhole on plan start = record {
         v = first_world plan.nodes (first_map plan);
         sound = f.0;
+        charted = first_world_charted plan (omega (arith, start.nodes.bucketed, ap (λ (p : Plan). p.buckets) d.begins.plan_is));
         stands = record { mail = subst (StateStandsFor on (state_of start)) (sym f.1) d.begins.stands; maps = d.begins.maps };
       } in
       makes_whole plan told lines outcomes [] left start last (record { plan_is = d.begins.plan_is; told_is = sym s.told })

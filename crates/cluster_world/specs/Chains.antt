@@ -5,12 +5,14 @@ use Rattle.node_store.specs.Disks.{View}
 use Rattle.cluster_world.specs.Worlds.{plan_of, disks_of, disk_of_node, steps_of, disks_tell}
 use Rattle.cluster_world.specs.Opens.{IsAtBeginning}
 use Rattle.cluster_world.specs.Outcomes.{Outcome, Awaited, Came, Makes}
-use Rattle.cluster_world.specs.Outcomes.Outcome.{Moved}
+use Rattle.cluster_world.specs.Outcomes.Outcome.{Moved, Settling, Mapped}
 use Rattle.cluster_world.specs.declared.world.World.{World}
 
 -- how many steps an outcome is of
 abbrev pub steps_in : Outcome → ℕ
 steps_in (Moved order steps sum up) = length steps
+steps_in (Settling result steps) = length steps
+steps_in (Mapped user told) = 0
 steps_in outcome = 1
 
 abbrev pub all_steps_in : List Outcome → ℕ

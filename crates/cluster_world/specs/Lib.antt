@@ -39,3 +39,6 @@ pub mod Posts
 pub mod Forms
 pub mod Runs
 pub mod Wholes
+pub mod Reports
+pub mod Settling
+pub mod Rests

@@ -1,10 +1,12 @@
 -- Steps that a world makes, one after another, and what each answered.
-use Rattle.std.specs.Prelude.{◌≡◌, ◌⊎◌, ℕ, zero, suc, ◌+◌, Bool, true, false, nat_eq, List, [], ◌∷◌, ⊤, MatchBool, Some, Result, Ok, Err, if◌then◌else◌}
+use Rattle.std.specs.Prelude.{◌≡◌, ◌⊎◌, ℕ, zero, suc, ◌+◌, Bool, true, false, not, ◌&&◌, nat_eq, List, [], ◌∷◌, ◌++◌, ⊤, MatchBool, Some, Result, Ok, Err, if◌then◌else◌}
+use Rattle.object_model.specs.Sets.{has}
 use Rattle.session_model.specs.Events.{NodeLife, IsUp}
 use Rattle.node_store.specs.Disks.{View}
 use Rattle.cluster_world.specs.Flights.{first_number}
 use Rattle.cluster_world.specs.Steps.{IsStep}
-use Rattle.cluster_world.specs.Worlds.{state_of}
+use Rattle.cluster_world.specs.Telling.{members_seen}
+use Rattle.cluster_world.specs.Worlds.{state_of, node_in}
 use Rattle.cluster_world.specs.declared.world.World.{World}
 use Rattle.cluster_world.specs.declared.step.Step.{Step}
 use Rattle.cluster_world.specs.declared.step.Step.TheVariants as step
@@ -44,16 +46,29 @@ abbrev pub nodes_but : ℕ → ℕ → ℕ → List ℕ
 nodes_but node zero from = []
 nodes_but node (suc left) from = if nat_eq from node then nodes_but node left (from + 1) else from ∷ nodes_but node left (from + 1)
 
--- a node pushed to these, one after another, until a step failed
+-- such a step was made for each of these nodes, one after another, until one failed
+abbrev pub StepsTo : (ℕ → Step) → List ℕ → List StepMade → Type 0
+StepsTo of [] steps = steps ≡ []
+StepsTo of (to ∷ others) [] = ⊥
+StepsTo of (to ∷ others) (one ∷ more) = (one.step ≡ of to) × MatchBool (has_failed one.result) (more ≡ []) (StepsTo of others more)
+
+-- a node pushed to these
 abbrev pub PushesTo : ℕ → List ℕ → List StepMade → Type 0
-PushesTo node [] steps = steps ≡ []
-PushesTo node (to ∷ others) [] = ⊥
-PushesTo node (to ∷ others) (one ∷ more) = (one.step ≡ step.Push node to) × MatchBool (has_failed one.result) (more ≡ []) (PushesTo node others more)
+PushesTo node others steps = StepsTo (step.Push node) others steps
 
 -- A node that is up pushed to each other, in rising order, until a step failed; one that is not did nothing.
 pub record PushesAll (nodes : ℕ) (life : NodeLife) (node : ℕ) (steps : List StepMade) : Type 0 where
   pub up : IsUp life → PushesTo node (nodes_but node nodes 1) steps
   pub else_none : (IsUp life → ⊥) → steps ≡ []
+
+-- the other nodes of a set, of those from 1 to so many, in rising order
+abbrev pub others_in : ℕ → ℕ → ℕ → List ℕ
+others_in node set zero = []
+others_in node set (suc k) = others_in node set k ++ (if has set (suc k) && not (nat_eq node (suc k)) then suc k ∷ [] else [])
+
+-- A node reported to each other member of its epoch, in rising order, until a step failed. One that is not up, or has no epoch, did nothing.
+abbrev pub ReportsAll : {D : Type 0} → World D → ℕ → List StepMade → Type 0
+ReportsAll world node steps = StepsTo (step.Report node) (others_in node (members_seen (node_in (state_of world) node)) 16) steps
 
 -- a step that a regroup at this node makes
 abbrev pub IsOfRegroup : ℕ → StepMade → Type 0

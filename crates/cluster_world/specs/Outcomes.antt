@@ -5,6 +5,7 @@ use Rattle.mail_model.specs.Tape.{ClusterOrder}
 use Rattle.mail_model.specs.Tape.{ClusterOrder as order}
 use Rattle.session_model.specs.Sums.{BookSum, sum_of}
 use Rattle.object_model.specs.Letters.{Number}
+use Rattle.object_model.specs.Sets.{nodes_in}
 use Rattle.session_model.specs.Calls.{Call, Answer, IsAnswerTo}
 use Rattle.session_model.specs.Calls.Answer.{Failed}
 use Rattle.session_model.specs.Logs.{Asked, Answered}
@@ -17,10 +18,11 @@ use Rattle.call_tickets.specs.declared.answer.Answer.{Answer as WorldAnswer}
 use Rattle.call_tickets.specs.declared.answer.Ask.TheVariants as ask
 use Rattle.node_store.specs.Disks.{View}
 use Rattle.cluster_world.specs.Lives.{nodes_up}
-use Rattle.cluster_world.specs.Made.{StepMade, MakesSteps, MakesOne, PostsAll, PushesAll}
+use Rattle.cluster_world.specs.Made.{StepMade, MakesSteps, MakesOne, PostsAll, PushesAll, ReportsAll}
 use Rattle.cluster_world.specs.Regroups.{MakesRegroup}
+use Rattle.cluster_world.specs.Settling.{MakesSettle, maps_in}
 use Rattle.cluster_world.specs.Steps.{IsStep}
-use Rattle.cluster_world.specs.Worlds.{plan_of, life_of, book_of}
+use Rattle.cluster_world.specs.Worlds.{state_of, plan_of, life_of, book_of}
 use Rattle.cluster_world.specs.declared.world.World.{World}
 use Rattle.cluster_world.specs.declared.step.Step.{Step}
 use Rattle.cluster_world.specs.declared.step.Step.TheVariants as step
@@ -29,6 +31,12 @@ use Rattle.cluster_world.specs.declared.step.Said.TheVariants as said
 use Rattle.cluster_world.specs.declared.fault.StepFault.{StepFault}
 use Rattle.cluster_world.specs.declared.fault.StepFault.TheVariants as fault
 use Rattle.cluster_world.specs.declared.regrouping.Regroup.{Regroup}
+use Rattle.cluster_world.specs.declared.settling.Settle.{Settle}
+
+-- what is told of a map: the manager, and the nodes that it names in rising order
+abbrev pub map_seen : Option (ℕ × ℕ) → Option (ℕ × List ℕ)
+map_seen None = None
+map_seen (Some told) = Some (told.0, nodes_in told.1 16)
 
 -- the call of the world is the user's leave
 abbrev pub IsLeave : List ℕ → WorldCall → Type 0
@@ -60,6 +68,10 @@ pub data Outcome : Type 0 where
   Left : (k node : ℕ) (user : List ℕ) → Outcome
   -- these steps were made for a run line, where the book had so many entries and these nodes were up
   Moved : (order : ClusterOrder) (steps : List StepMade) (sum : BookSum) (up : List ℕ) → Outcome
+  -- the cluster was to settle: this came of it, and these steps were made
+  Settling : (result : Result Settle StepFault) (steps : List StepMade) → Outcome
+  -- the world was asked for a user's map, and told this: the manager and the set that it names, or nothing
+  Mapped : (user : List ℕ) (told : Option (ℕ × ℕ)) → Outcome
 
 -- the outcome of a run line for which these steps were made in this world
 abbrev pub moved_in : {D : Type 0} → World D → ClusterOrder → List StepMade → Outcome
@@ -79,6 +91,8 @@ made_of (Abandoned k asked ticket) = Made.GivesUp k
 made_of (KeptUp k ticket why) = Made.GivesUp k
 made_of (Left k node user) = Made.Leaves k user
 made_of (Moved order steps sum up) = Made.Moves order
+made_of (Settling result steps) = Made.Moves order.Settle
+made_of (Mapped user told) = Made.Moves (order.Maps user)
 
 -- What it was asked. A call that was refused is none: nothing came of it.
 abbrev pub asked_by_outcome : Outcome → List Asked
@@ -125,7 +139,7 @@ abbrev pub left_after_all : List StepMade → List Awaited → List Awaited
 left_after_all [] awaited = awaited
 left_after_all (one ∷ more) awaited = left_after_all more (left_after (fallen_in one.step one.result) awaited)
 
--- the steps that a run line asks for were made
+-- The steps that a run line asks for were made. What comes of a settle, and what is told of a map, can't be read off steps: those lines have outcomes of their own.
 abbrev pub MakesOrder : {D : Type 0} → View D → ClusterOrder → List StepMade → World D → World D → Type 0
 MakesOrder on (order.Crash node) steps old new = MakesOne on (step.Crash node) steps old new
 MakesOrder on (order.Start node) steps old new = MakesOne on (step.Start node) steps old new
@@ -140,7 +154,10 @@ MakesOrder on (order.Tick seconds) steps old new = MakesOne on (step.Tick second
 MakesOrder on (order.Group node) steps old new = MakesOne on (step.Group node) steps old new
 MakesOrder on (order.Conclude node) steps old new = MakesOne on (step.Conclude node) steps old new
 MakesOrder on (order.Regroup node) steps old new = (result : Result Regroup StepFault) × MakesRegroup on node result steps old new
+MakesOrder on (order.Report node) steps old new = ReportsAll old node steps × MakesSteps on steps old new
 MakesOrder on order.Sum steps old new = (steps ≡ []) × (new ≡ old)
+MakesOrder on order.Settle steps old new = ⊥
+MakesOrder on (order.Maps user) steps old new = ⊥
 
 -- a refusal after which the world is as it was
 abbrev pub IsRefusal : StepFault → Type 0
@@ -186,6 +203,9 @@ Came on (Left k node user) awaited old left new =
     × (left ≡ left_after (fallen_in (step.Begin node begun) result) awaited)
 Came on (Moved order steps sum up) awaited old left new =
     MakesOrder on order steps old new × (left ≡ left_after_all steps awaited) × (sum ≡ sum_of (book_of old)) × (up ≡ nodes_up (life_of old) (plan_of old).nodes)
+Came on (Settling result steps) awaited old left new =
+    (makes : MakesSettle on result old new) × (makes.steps ≡ steps) × (left ≡ left_after_all steps awaited)
+Came on (Mapped user told) awaited old left new = (told ≡ maps_in (state_of old) user) × (left ≡ awaited) × (new ≡ old)
 
 -- the world made these steps, one after another, and no others
 abbrev pub Makes : {D : Type 0} → View D → List Outcome → List Awaited → World D → List Awaited → World D → Type 0

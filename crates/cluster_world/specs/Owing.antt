@@ -16,7 +16,7 @@ use Rattle.cluster_world.specs.Steps.{IsBlind}
 use Rattle.cluster_world.specs.Opens.{IsAtBeginning}
 use Rattle.cluster_world.specs.Made.{StepMade}
 use Rattle.cluster_world.specs.Outcomes.{Outcome, Awaited, Makes, asked_by_outcome, answered_by_outcome}
-use Rattle.cluster_world.specs.Outcomes.Outcome.{Began, Refused, Fell, Broke, StillPending, Moved}
+use Rattle.cluster_world.specs.Outcomes.Outcome.{Began, Refused, Fell, Broke, StillPending, Moved, Settling}
 use Rattle.cluster_world.specs.declared.world.World.{World}
 
 -- none of these steps reads from a disk what the machine has to know
@@ -27,6 +27,7 @@ AreBlind nodes (one ∷ more) = IsBlind nodes one.step × AreBlind nodes more
 -- nor does any that led to this outcome; a step that a session leads to never does
 abbrev pub IsOfBlind : ℕ → Outcome → Type 0
 IsOfBlind nodes (Moved order steps sum up) = AreBlind nodes steps
+IsOfBlind nodes (Settling result steps) = AreBlind nodes steps
 IsOfBlind nodes outcome = ⊤
 
 abbrev pub AllBlind : ℕ → List Outcome → Type 0

@@ -78,26 +78,26 @@ abbrev pub has_room_for_rounds : ℕ → List Flight → Bool
 has_room_for_rounds nodes flights = nat_le (length flights + 6 * nodes) most_letters && nat_le (octets_flying flights + 64 * (6 * nodes)) most_octets
 
 -- whether a number that the group of this node needs is used up: that of letters, or the count of the node's epochs
-abbrev pub has_worn : Option Life → Bool
-has_worn None = false
-has_worn (Some life) = has_used_up life
+abbrev pub used_up_in : Option Life → Bool
+used_up_in None = false
+used_up_in (Some life) = has_used_up life
 
-abbrev pub is_worn_at : {D : Type 0} → ℕ → WorldState D → Bool
-is_worn_at n state = nat_le letters_end state.flying.sent || has_worn (of_node state.lives n)
+abbrev pub group_is_worn : {D : Type 0} → ℕ → WorldState D → Bool
+group_is_worn n state = nat_le letters_end state.flying.sent || used_up_in (of_node state.lives n)
 
 -- The node was not to be refused, and no number was used up; the regroup was refused, before anything was done, for want of room.
 pub record LacksRoom {D : Type 0} (n : ℕ) (why : StepFault) (steps : List StepMade) (old : World D) : Type 0 where
   pub none : steps ≡ []
   pub is : why ≡ fault.NoRoom
   pub fit : node_refusal (plan_of old) (life_of old) (step.Group n) ≡ None
-  pub fresh : is_worn_at n (state_of old) ≡ false
+  pub fresh : group_is_worn n (state_of old) ≡ false
   pub lacking : has_room_for_rounds (plan_of old).nodes (state_of old).flying.flights ≡ false
 
 -- Where the node was not to be refused, no number was used up, and anything was done, there was room.
 abbrev pub BeginsWithRoom : {D : Type 0} → ℕ → List StepMade → World D → Type 0
 BeginsWithRoom n [] old = ⊤
 BeginsWithRoom n (one ∷ more) old =
-    node_refusal (plan_of old) (life_of old) (step.Group n) ≡ None → is_worn_at n (state_of old) ≡ false → has_room_for_rounds (plan_of old).nodes (state_of old).flying.flights ≡ true
+    node_refusal (plan_of old) (life_of old) (step.Group n) ≡ None → group_is_worn n (state_of old) ≡ false → has_room_for_rounds (plan_of old).nodes (state_of old).flying.flights ≡ true
 
 -- An epoch was formed, or a disk failed in the last step, or the last step was refused; or there was no room at the beginning.
 abbrev pub RegroupsSo : {D : Type 0} → ℕ → Result Regroup StepFault → List StepMade → World D → Type 0

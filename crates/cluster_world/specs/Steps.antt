@@ -29,7 +29,7 @@ use Rattle.cluster_world.specs.Moments.{StopsKeep}
 use Rattle.cluster_world.specs.declared.life.Life.{Life}
 use Rattle.cluster_world.specs.declared.world.World.{World}
 use Rattle.cluster_world.specs.declared.step.Step.{Step}
-use Rattle.cluster_world.specs.declared.step.Step.TheVariants.{Begin, Ask, GiveUp, Post, Drop, Push, Widen, Group, Conclude, Crash, Start, Lose, Tick}
+use Rattle.cluster_world.specs.declared.step.Step.TheVariants.{Begin, Ask, GiveUp, Post, Drop, Push, Widen, Group, Conclude, Report, Crash, Start, Lose, Tick}
 use Rattle.cluster_world.specs.declared.step.Said.{Said}
 use Rattle.cluster_world.specs.declared.step.Said.TheVariants.{Begun, Noted, Asked, Heard, Thrown, Sent, Widened, Grouped, Concluded, NodeUp, Done, Faulted}
 use Rattle.cluster_world.specs.declared.fault.StepFault.{StepFault}
@@ -91,6 +91,7 @@ MayMisread (Push from to) = ⊤
 MayMisread (Widen at user id to) = ⊥
 MayMisread (Group node) = ⊥
 MayMisread (Conclude node) = ⊥
+MayMisread (Report from to) = ⊥
 MayMisread (Crash node) = ⊥
 MayMisread (Start node) = ⊤
 MayMisread (Lose node) = ⊥
@@ -137,6 +138,7 @@ SaysSo (Group node) (Grouped epoch) = ⊤
 SaysSo (Group node) (Faulted failed) = failed ≡ node
 SaysSo (Conclude node) (Concluded epoch members) = ⊤
 SaysSo (Conclude node) (Faulted failed) = failed ≡ node
+SaysSo (Report from to) (Sent letters) = ⊤
 SaysSo (Crash node) Done = ⊤
 SaysSo (Start node) (NodeUp boot) = ⊤
 SaysSo (Start node) (Faulted failed) = failed ≡ node

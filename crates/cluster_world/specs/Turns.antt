@@ -1,12 +1,12 @@
 -- What a step asks of the lives of nodes, and what it makes of them.
-use Rattle.std.specs.Prelude.{ℕ, ⊤, Option, Some, None, if◌then◌else◌, Result, Ok, Err}
+use Rattle.std.specs.Prelude.{ℕ, List, [], ◌∷◌, ⊤, Option, Some, None, if◌then◌else◌, Result, Ok, Err}
 use Rattle.std.specs.List.{list_all}
 use Rattle.mail_model.specs.Plan.{Plan}
 use Rattle.cluster_model.specs.Steps.{nodes_named, actor_of, is_node}
 use Rattle.session_model.specs.Events.{NodeLife, NodeLife as life, turned}
 use Rattle.cluster_world.specs.Seen.{step_seen}
 use Rattle.cluster_world.specs.declared.step.Step.{Step}
-use Rattle.cluster_world.specs.declared.step.Step.TheVariants.{Begin, Crash, Start, Lose, Tick}
+use Rattle.cluster_world.specs.declared.step.Step.TheVariants.{Begin, Report, Crash, Start, Lose, Tick}
 use Rattle.cluster_world.specs.declared.step.Said.{Said}
 use Rattle.cluster_world.specs.declared.step.Said.TheVariants.{NodeUp, Done, Faulted}
 use Rattle.cluster_world.specs.declared.fault.StepFault.{StepFault}
@@ -30,10 +30,15 @@ abbrev pub actor_refusal : Step → (ℕ → NodeLife) → Option ℕ → Option
 actor_refusal step lives None = None
 actor_refusal step lives (Some node) = life_refusal step (lives node)
 
+-- The nodes that a step names. Messages see of a report the node that tells alone.
+abbrev pub nodes_of_step : Step → List ℕ
+nodes_of_step (Report from to) = from ∷ to ∷ []
+nodes_of_step step = nodes_named (step_seen step)
+
 -- why a step is refused for the sake of a node that it names: that there is none, or how it is
 abbrev pub node_refusal : Plan → (ℕ → NodeLife) → Step → Option StepFault
 node_refusal plan lives step =
-    if list_all (is_node plan) (nodes_named (step_seen step)) then actor_refusal step lives (actor_of (step_seen step)) else Some fault.NoSuchNode
+    if list_all (is_node plan) (nodes_of_step step) then actor_refusal step lives (actor_of (step_seen step)) else Some fault.NoSuchNode
 
 -- what was refused for that sake
 abbrev pub is_for_node : StepFault → Option StepFault

@@ -200,7 +200,8 @@ impl Flying {
 
     /// The lowest number of a letter in flight.
     pub(crate) fn first(&self) -> Option<u64>
-        ensures { result ≡ first_number self.now.flights }
+        ensures first { result ≡ first_number self.now.flights }
+        ensures order { AreInOrder self.now }
     {
         self.flights.front().map(|flight| flight.number())
     }

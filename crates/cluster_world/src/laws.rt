@@ -4,6 +4,8 @@ ghost use Rattle.cluster_world.specs.Chains.{MakesMore, StepsAreCounted, PlanSta
 ghost use Rattle.cluster_world.specs.Owing.{WorldOwes, NonePending};
 ghost use Rattle.cluster_world.specs.Lasting.{PendingHasLetter, ConfirmedInEveryImage};
 ghost use Rattle.cluster_world.specs.Wholes.{WorldIsWhole, OneMapPerEpoch};
+ghost use Rattle.cluster_world.specs.Settling.{RestIsSettled};
+ghost use Rattle.cluster_world.specs.Rests.{RestsRight, SettledMapsAreRight, OpeningIsAtRest};
 
 use io_edge::Disk;
 
@@ -55,4 +57,24 @@ pub fn world_is_whole<D: Disk>()
 /// All memberships of one epoch are equal.
 pub fn one_map_per_epoch<D: Disk>()
     ensures { OneMapPerEpoch (view_of D.seen D.faults D.clock) }
+{}
+
+/// A world is at rest exactly where its latest epoch is settled and no letter is in flight, whatever its disks tell.
+pub fn rest_is_settled<D: Disk>()
+    ensures { RestIsSettled D }
+{}
+
+/// A world that stands for a sound one of the whole machine and is at rest has right maps.
+pub fn rests_right<D: Disk>()
+    ensures { RestsRight (view_of D.seen D.faults D.clock) }
+{}
+
+/// So has one that was driven and is at rest.
+pub fn settled_maps_are_right<D: Disk>()
+    ensures { SettledMapsAreRight (view_of D.seen D.faults D.clock) }
+{}
+
+/// Where a cluster opens, it is at rest.
+pub fn opening_is_at_rest<D: Disk>()
+    ensures { OpeningIsAtRest (view_of D.seen D.faults D.clock) }
 {}

@@ -4,7 +4,8 @@
 //!
 //! A `World` is all that a cluster holds: the nodes of a plan, each with its disk, the letters in flight, and a `Book` of what
 //! was acknowledged. `open` makes one over empty disks, one for each node, in order. `step` makes one step, `run` several,
-//! `flow` posts letters until none is in flight, and `regroup` forms an epoch of the nodes that are up. `close` hands the disks back. `plan`, `book`, `is_up`, `is_lost`, `boot`,
+//! `flow` posts letters until none is in flight, `regroup` forms an epoch of the nodes that are up, and `settle` brings the
+//! latest epoch to rest. `maps` and `due` tell what the nodes know of users, and what is still due. `close` hands the disks back. `plan`, `book`, `is_up`, `is_lost`, `boot`,
 //! `members`, `kind`, `filing`, `flying`, `seconds` and `sum` tell what the world has, take no memory, and change nothing.
 //!
 //! DESCRIPTION
@@ -22,6 +23,7 @@
 //! | `Widen` | a copy that is on a node's disk gets a target more |
 //! | `Group` | a node opens a group: it promises the next epoch, which is recorded, and asks every other node of the plan |
 //! | `Conclude` | a node concludes the group that it has open: those that joined are the members, and each of them is told |
+//! | `Report` | a node tells another, as their manager, what it has of users: the first 64 rows that are due to it, as far as there is room |
 //! | `Crash` | a node stops; what is on its disk stays |
 //! | `Start` | a node that is down starts over its disk, in its next boot, and has no epoch until a group lets it in |
 //! | `Lose` | a node loses its disk for good |
@@ -65,6 +67,12 @@
 //! is up in the boot it was in, and each has installed the epoch (`HasFormed`). What a run line leads to has a whole regroup
 //! (`MakesOrder`), and with each run line which nodes were up.
 //!
+//! `HasSettled` in `specs/Rests.antt` says which steps a settle makes, and what the world is then like. Where it answers that the
+//! epoch is settled, the world is at rest (`IsAtRest` in `specs/Settling.antt`), which is said in words by `rest_is_settled`. A
+//! world that stands for a sound one of the whole machine and is at rest has right maps (`rests_right`): each user has a manager,
+//! which is up and names exactly the members whose disk says that some copy of the user is here. So has one that was driven
+//! (`settled_maps_are_right`). A cluster that opens is at rest (`opening_is_at_rest`).
+//!
 //! DIAGNOSTICS
 //!
 //! A step that is refused says the first of these that applies:
@@ -75,7 +83,7 @@
 //! - `NoSuchTicket`: the ticket does not stand.
 //! - `NotAGroup`: the node has no group open that it could conclude.
 //! - `Worn`: a number that the step needs is used up. No letter is sent from the number 2^64 - 2^32 on.
-//! - `NoRoom`: letters are due, and not even the first finds room; of a group or its conclusion, not all of them do. A
+//! - `NoRoom`: letters or rows are due, and not even the first finds room; of a group or its conclusion, not all of them do. A
 //!   regroup is refused so where there is no room for its rounds, and no number is used up that its first step needs.
 //! - `NoMemory`: memory ran out. It may come before a refusal is found.
 //!
@@ -85,7 +93,7 @@
 //! `Said::Faulted` says that the disk of a node failed in the step: its count of faults rose, or octets that were read are not
 //! those of the node's records, over a disk that does not tell what it holds. The node is down, and the book has that.
 //!
-//! A refused `run`, `flow` or `regroup` leaves what its earlier steps did. A regroup for which there is no room makes no step.
+//! A refused `run`, `flow`, `regroup` or `settle` leaves what its earlier steps did. A regroup for which there is no room makes no step.
 //!
 //! COSTS
 //!
@@ -104,8 +112,7 @@
 //! WHAT IT DOES NOT DO
 //!
 //! Its clock stands still between two ticks, and shows 0 before the first. It sends nothing by itself, tries nothing again, and
-//! starts no node that is down. In a plan of several nodes the calls of a POP3 session are not begun yet. No row of a map is
-//! reported yet.
+//! starts no node that is down. In a plan of several nodes the calls of a POP3 session are not begun yet.
 #![tactic(auto)]
 
 mod entries;
@@ -121,8 +128,10 @@ mod nodes;
 mod opening;
 mod refusal;
 mod regrouping;
+mod resting;
 mod running;
 mod sending;
+mod settling;
 mod step;
 mod steps;
 mod sum;
@@ -132,10 +141,12 @@ mod world;
 
 pub use fault::{OpenFault, StepFault};
 pub use laws::{
-    later_after, makes_more, none_pending, one_map_per_epoch, plan_stays, steps_are_counted,
-    world_is_whole, world_owes,
+    later_after, makes_more, none_pending, one_map_per_epoch, opening_is_at_rest, plan_stays,
+    rest_is_settled, rests_right, settled_maps_are_right, steps_are_counted, world_is_whole,
+    world_owes,
 };
 pub use regrouping::Regroup;
+pub use settling::Settle;
 pub use step::{Said, Step};
 pub use sum::BookSum;
 pub use world::World;

@@ -1,11 +1,11 @@
 //! Why a step is refused for the sake of a node that it names.
 ghost use Rattle.std.specs.Prelude.{◌≡◌};
 ghost use Rattle.std.specs.List.{list_all};
-ghost use Rattle.cluster_model.specs.Steps.{nodes_named, actor_of, is_node};
+ghost use Rattle.cluster_model.specs.Steps.{actor_of, is_node};
 ghost use Rattle.cluster_world.specs.Seen.{step_seen};
 ghost use Rattle.cluster_world.specs.Lives.{life_seen};
 ghost use Rattle.cluster_world.specs.Worlds.{life_among};
-ghost use Rattle.cluster_world.specs.Turns.{life_refusal, node_refusal};
+ghost use Rattle.cluster_world.specs.Turns.{life_refusal, nodes_of_step, node_refusal};
 
 use crate::fault::StepFault;
 use crate::life::Life;
@@ -43,7 +43,7 @@ fn actor(step: &Step) -> Option<NodeNo>
         | Step::Lose { node } => Some(*node),
         Step::Ask { ticket } | Step::GiveUp { ticket } => Some(ticket.node),
         Step::Post { .. } | Step::Drop { .. } | Step::Tick { .. } => None,
-        Step::Push { from, .. } => Some(*from),
+        Step::Push { from, .. } | Step::Report { from, .. } => Some(*from),
         Step::Widen { at, .. } => Some(*at),
     }
 }
@@ -56,7 +56,7 @@ impl<D> Nodes<D> {
     }
 
     fn has_named(&self, step: &Step) -> bool
-        ensures { result ≡ list_all (is_node self.now.plan) (nodes_named (step_seen step.now)) }
+        ensures { result ≡ list_all (is_node self.now.plan) (nodes_of_step step.now) }
     {
         match step {
             Step::Begin { node, .. }
@@ -67,7 +67,9 @@ impl<D> Nodes<D> {
             | Step::Lose { node } => self.has(*node),
             Step::Ask { ticket } | Step::GiveUp { ticket } => self.has(ticket.node),
             Step::Post { .. } | Step::Drop { .. } | Step::Tick { .. } => true,
-            Step::Push { from, to } => self.has(*from) && self.has(*to),
+            Step::Push { from, to } | Step::Report { from, to } => {
+                self.has(*from) && self.has(*to)
+            }
             Step::Widen { at, to, .. } => self.has(*at) && self.has(*to),
         }
     }

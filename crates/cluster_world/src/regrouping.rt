@@ -7,7 +7,7 @@ ghost use Rattle.cluster_world.specs.Worlds.{state_of, plan_of, life_of, CanMake
 ghost use Rattle.cluster_world.specs.Flights.{AreInOrder};
 ghost use Rattle.cluster_world.specs.Turns.{node_refusal};
 ghost use Rattle.cluster_world.specs.Steps.{AreSettled};
-ghost use Rattle.cluster_world.specs.Regroups.{has_room_for_rounds, has_worn, is_worn_at, is_old, failed_in, ended, StepsOn, PostsOn, AsksOn, AsksAgain, ConcludesOn, FormsOn, HasRegrouped};
+ghost use Rattle.cluster_world.specs.Regroups.{has_room_for_rounds, used_up_in, group_is_worn, is_old, failed_in, ended, StepsOn, PostsOn, AsksOn, AsksAgain, ConcludesOn, FormsOn, HasRegrouped};
 ghost use Rattle.cluster_world.specs.declared.step.Step.TheVariants.{Group};
 
 use crate::fault::StepFault;
@@ -102,8 +102,8 @@ fn is_used_up(life: &Life) -> bool
 }
 
 /// The same of a node, if the plan has it.
-fn has_worn(life: Option<&Life>) -> bool
-    ensures { result ≡ has_worn (option_copied life.entry) }
+fn used_up_in(life: Option<&Life>) -> bool
+    ensures { result ≡ used_up_in (option_copied life.entry) }
 {
     match life {
         Some(life) => is_used_up(life),
@@ -113,7 +113,7 @@ fn has_worn(life: Option<&Life>) -> bool
 
 impl<D: Disk> World<D> {
     // Makes a step that is to go on.
-    fn step_on(&mut self, alloc: Global, step: Step) -> Result<Said, Halt>
+    pub(crate) fn step_on(&mut self, alloc: Global, step: Step) -> Result<Said, Halt>
         requires ready { CanMakeSteps D.seen self.old }
         ensures ready { CanMakeSteps D.seen self.new }
         ensures did { StepsOn (view_of D.seen D.faults D.clock) step result self.old self.new }
@@ -207,19 +207,19 @@ impl<D: Disk> World<D> {
     }
 
     // Whether a number that the node's group needs is used up.
-    fn is_worn_at(&self, node: NodeNo) -> bool
-        ensures { result ≡ is_worn_at node (state_of self.now) }
+    fn group_is_worn(&self, node: NodeNo) -> bool
+        ensures { result ≡ group_is_worn node (state_of self.now) }
     {
-        is_worn(self.flying.sent()) || has_worn(self.nodes.life(node))
+        is_worn(self.flying.sent()) || used_up_in(self.nodes.life(node))
     }
 
     // Whether the node could begin, and there is no room for the letters of it.
     fn lacks_room(&self, node: NodeNo) -> bool
-        ensures lacks { result ≡ ((not (is_some (node_refusal (plan_of self.now) (life_of self.now) (Group node))) && not (is_worn_at node (state_of self.now))) && not (has_room_for_rounds (plan_of self.now).nodes (state_of self.now).flying.flights)) }
+        ensures lacks { result ≡ ((not (is_some (node_refusal (plan_of self.now) (life_of self.now) (Group node))) && not (group_is_worn node (state_of self.now))) && not (has_room_for_rounds (plan_of self.now).nodes (state_of self.now).flying.flights)) }
         ensures order { AreInOrder (state_of self.now).flying }
     {
         let room = self.flying.has_room_for_rounds(self.nodes.plan().nodes);
-        self.nodes.refuses(&Step::Group { node }).is_none() && !self.is_worn_at(node) && !room
+        self.nodes.refuses(&Step::Group { node }).is_none() && !self.group_is_worn(node) && !room
     }
 
     /// The node forms an epoch of just the nodes that are up: it opens a group, whose letters are posted in order, and then

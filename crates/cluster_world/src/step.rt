@@ -63,6 +63,14 @@ pub enum Step {
         /// The node.
         node: NodeNo,
     },
+    /// Has a node tell another, as their manager, what it has of users: the first 64 rows that are due to it, as far as there is
+    /// room.
+    Report {
+        /// Who tells.
+        from: NodeNo,
+        /// The manager.
+        to: NodeNo,
+    },
     /// A node stops. What is on its disk stays.
     Crash {
         /// The node.

@@ -11,5 +11,6 @@ pub(crate) mod group;
 pub(crate) mod lose;
 pub(crate) mod post;
 pub(crate) mod push;
+pub(crate) mod report;
 pub(crate) mod start;
 pub(crate) mod widen;

@@ -19,6 +19,7 @@ use crate::steps::group::group_node;
 use crate::steps::lose::lose_node;
 use crate::steps::post::post_letter;
 use crate::steps::push::push_states;
+use crate::steps::report::report_rows;
 use crate::steps::start::start_node;
 use crate::steps::widen::widen_copy;
 use call_tickets::Call;
@@ -197,6 +198,9 @@ impl<D: Disk> World<D> {
                 &mut self.book,
                 *node,
             ),
+            Step::Report { from, to } => {
+                report_rows(alloc, &mut self.nodes, &mut self.flying, *from, *to)
+            }
             Step::Tick { seconds } => {
                 self.seconds = *seconds;
                 Ok(Said::Done)

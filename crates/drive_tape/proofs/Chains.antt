@@ -11,13 +11,14 @@ use Rattle.cluster_world.specs.Worlds.{WorldState, state_of, disk_in, disk_of_no
 use Rattle.cluster_world.specs.Steps.{StepDid}
 use Rattle.cluster_world.specs.Made.{StepMade, MakesSteps}
 use Rattle.cluster_world.specs.Outcomes.{Outcome, Awaited, Came, Makes}
-use Rattle.cluster_world.specs.Outcomes.Outcome.{Began, Refused, Fell, Broke, Answers, StillPending, Unanswered, GaveUp, Abandoned, KeptUp, Left, Moved}
+use Rattle.cluster_world.specs.Outcomes.Outcome.{Began, Refused, Fell, Broke, Answers, StillPending, Unanswered, GaveUp, Abandoned, KeptUp, Left, Moved, Settling, Mapped}
 use Rattle.cluster_world.specs.declared.world.World.{World}
 use Rattle.cluster_world.specs.declared.step.Step.{Step}
 use Rattle.cluster_world.specs.declared.step.Said.{Said}
 use Rattle.cluster_world.specs.declared.step.Said.TheVariants as said
 use Rattle.cluster_world.specs.declared.fault.StepFault.{StepFault}
-use Rattle.drive_tape.proofs.WholeTexts.{AreEnded, are_ended, whole_ended, leave_ended, whole_more}
+use Rattle.drive_tape.proofs.WholeTexts.{AreEnded, are_ended, settle_ended, whole_ended, leave_ended, whole_more}
+use Rattle.cluster_world.specs.Settling.{AreOfSettle}
 use Rattle.cluster_world.specs.Ended.{IsEnded}
 use Rattle.cluster_world.proofs.Ordered.{order_makes, order_are}
 use Rattle.drive_tape.specs.Worlds.{IsWholeOutcome, AreWhole, WorldIsAt, WentTo, HasFailed, HasCauses}
@@ -86,6 +87,8 @@ module _ {D : Type 0} (on : View D) where
   carries_came (KeptUp k ticket why) awaited left old new came = carries_step _ _ _ _ came.2.did
   carries_came (Left k node user) awaited left old new came = carries_step _ _ _ _ came.3.did
   carries_came (Moved order steps sum up) awaited left old new came = carries_steps steps old new (order_makes on order steps old new came.0)
+  carries_came (Settling result steps) awaited left old new (makes, are, left_is) = carries_steps steps old new (subst (λ (l : List StepMade). MakesSteps on l old new) are makes.made)
+  carries_came (Mapped user told) awaited left old new came = subst (λ (w : World D). Carries on (state_of old) (state_of w)) (sym came.2) (carries_none (state_of old))
 
   pub carries_makes : (outcomes : List Outcome) (awaited left : List Awaited) (old new : World D) → Makes on outcomes awaited old left new → Carries on (state_of old) (state_of new)
   carries_makes [] awaited left old new made = subst (λ (w : World D). Carries on (state_of old) (state_of w)) (sym made.1) (carries_none (state_of old))
@@ -134,6 +137,9 @@ module _ {D : Type 0} (on : View D) where
   stands_came (KeptUp k ticket why) awaited left old new came whole = stands_step _ _ _ _ came.2.did tt
   stands_came (Left k node user) awaited left old new came whole = stands_step _ _ _ _ came.3.did (leave_ended user came.0 came.2)
   stands_came (Moved order steps sum up) awaited left old new came whole = stands_steps steps old new (order_makes on order steps old new came.0) (are_ended order steps (order_are on order steps old new came.0))
+  stands_came (Settling result steps) awaited left old new (makes, are, left_is) whole =
+      stands_steps steps old new (subst (λ (l : List StepMade). MakesSteps on l old new) are makes.made) (settle_ended steps (subst AreOfSettle are makes.of))
+  stands_came (Mapped user told) awaited left old new came whole = λ tells stands. subst (λ (world : World D). (w : machine.World) × StandsFor on world w) (sym came.2) stands
 
   stands_makes : (outcomes : List Outcome) (awaited left : List Awaited) (old new : World D) → Makes on outcomes awaited old left new → AreWhole outcomes → disks_tell on.seen old ≡ true → ((w : machine.World) × StandsFor on old w)
       → ((w : machine.World) × StandsFor on new w)

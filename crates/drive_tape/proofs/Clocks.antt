@@ -26,16 +26,20 @@ use Rattle.cluster_world.specs.Steps.{IsStep}
 use Rattle.cluster_world.specs.Opens.{IsAtBeginning}
 use Rattle.cluster_world.specs.Made.{StepMade, MakesSteps, IsPost, IsOfRegroup, AreOfRegroup, MakesOne}
 use Rattle.cluster_world.specs.Outcomes.{Outcome, Awaited, MakesOrder, Came, Makes as MakesAll}
-use Rattle.cluster_world.specs.Outcomes.Outcome.{Began, Fell, Answers, StillPending, GaveUp, Abandoned, Left, Moved}
+use Rattle.cluster_world.specs.Outcomes.Outcome.{Began, Fell, Answers, StillPending, GaveUp, Abandoned, Left, Moved, Settling, Mapped}
 use Rattle.cluster_world.specs.declared.world.World.{World}
 use Rattle.cluster_world.specs.declared.step.Step.{Step}
 use Rattle.cluster_world.specs.declared.step.Step.TheVariants as step
+use Rattle.cluster_world.specs.Settling.{IsOfSettle, AreOfSettle}
+use Rattle.cluster_world.specs.Settling.IsOfSettle.{Posts, Pushes, Reports}
+use Rattle.cluster_world.specs.declared.settling.Settle.{Settle}
 use Rattle.cluster_world.specs.declared.step.Said.{Said}
 use Rattle.cluster_world.specs.declared.step.Said.TheVariants as said
 use Rattle.cluster_world.specs.declared.fault.StepFault.{StepFault}
-use Rattle.cluster_world.proofs.Ordered.{IsPushOf, order_makes, order_are}
+use Rattle.cluster_world.proofs.Ordered.{IsPushOf, IsReportOf, order_makes, order_are}
 use Rattle.drive_tape.specs.declared.cluster.Cluster.{Cluster}
 use Rattle.drive_tape.specs.Led.{Tells, Begins, Led, AreLed, told_of}
+use Rattle.drive_tape.specs.Led.TellsMove.{OfSteps, OfSettle, OfMap}
 use Rattle.drive_tape.specs.Points.{IsOnTime}
 use Rattle.drive_tape.specs.Runs.{Progress}
 
@@ -62,6 +66,25 @@ module _ {D : Type 0} (on : View D) where
   pushes_still node (one ∷ more) old new all (mid, is, rest) =
       pushes_still node more mid new (All-tail (IsPushOf node) one more all) rest
       ∙ is.did.clock ∙ ap (λ (s : Step). seconds_after_step s one.result (shown old)) (All-head (IsPushOf node) one more all).1
+
+  reports_still : (node : ℕ) (steps : List StepMade) (old new : World D) → All (IsReportOf node) steps → MakesSteps on steps old new → shown new ≡ shown old
+  reports_still node [] old new all is = ap (λ (w : World D). shown w) is
+  reports_still node (one ∷ more) old new all (mid, is, rest) =
+      reports_still node more mid new (All-tail (IsReportOf node) one more all) rest
+      ∙ is.did.clock ∙ ap (λ (s : Step). seconds_after_step s one.result (shown old)) (All-head (IsReportOf node) one more all).1
+
+  of_settle_still : (one : StepMade) (was : ℕ) → IsOfSettle one → seconds_after_step one.step one.result was ≡ was
+  of_settle_still one was (Posts post) = ap (λ (s : Step). seconds_after_step s one.result was) post.1
+  of_settle_still one was (Pushes from to apart is) = ap (λ (s : Step). seconds_after_step s one.result was) is
+  of_settle_still one was (Reports from to apart is) = ap (λ (s : Step). seconds_after_step s one.result was) is
+
+  settle_still : (steps : List StepMade) (old new : World D) → AreOfSettle steps → MakesSteps on steps old new → shown new ≡ shown old
+  settle_still [] old new all is = ap (λ (w : World D). shown w) is
+  settle_still (one ∷ more) old new all (mid, is, rest) = settle_still more mid new all.1 rest ∙ is.did.clock ∙ of_settle_still one (shown old) all.0
+
+  settling_still : (result : Result Settle StepFault) (steps : List StepMade) (awaited left : List Awaited) (old new : World D) → Came on (Settling result steps) awaited old left new → shown new ≡ shown old
+  settling_still result steps awaited left old new (makes, are, left_is) =
+      settle_still steps old new (subst AreOfSettle are makes.of) (subst (λ (l : List StepMade). MakesSteps on l old new) are makes.made)
 
   of_regroup_still : (node : ℕ) (one : StepMade) (was : ℕ) → IsOfRegroup node one → seconds_after_step one.step one.result was ≡ was
   of_regroup_still node one was of = ⊎_elim
@@ -110,6 +133,9 @@ module _ {D : Type 0} (on : View D) where
           never (event.HasWidened did) told = one_told (event.HasWidened did) told
           never (event.HasGrouped epoch) told = one_told (event.HasGrouped epoch) told
           never (event.HasFormed epoch members) told = one_told (event.HasFormed epoch members) told
+          never event.HasSettled told = one_told event.HasSettled told
+          never (event.WasAbsent member) told = one_told (event.WasAbsent member) told
+          never (event.HasMapped user map) told = one_told (event.HasMapped user map) told
           never event.HasTicked told = one_told event.HasTicked told
           never (event.HasSummed counts) told = one_told (event.HasSummed counts) told
 
@@ -130,6 +156,10 @@ module _ {D : Type 0} (on : View D) where
   order_clock (order.Regroup node) steps sum happened old new made tells =
       regroup_still node steps old new (order_are on (order.Regroup node) steps old new made) (order_makes on (order.Regroup node) steps old new made)
   order_clock (order.Tick seconds) steps sum happened old new (result, are, is) tells = ticks seconds result steps sum happened old new are is tells
+  order_clock (order.Report node) steps sum happened old new made tells =
+      reports_still node steps old new (order_are on (order.Report node) steps old new made) (order_makes on (order.Report node) steps old new made)
+  order_clock order.Settle steps sum happened old new made tells = absurd made
+  order_clock (order.Maps user) steps sum happened old new made tells = absurd made
   order_clock order.Sum steps sum happened old new made tells = ap (λ (w : World D). shown w) made.1
 
   -- what the outcomes of one act leave to be made
@@ -177,8 +207,14 @@ module _ {D : Type 0} (on : View D) where
       one_goes _ own others (StillPending k ticket) awaited left old new (λ between mid came. came.4.did.clock) is makes
   act_goes (Leaves k user) plan been before own others awaited left old new (node, is) makes =
       one_goes _ own others (Left k node user) awaited left old new (λ between mid came. came.3.did.clock) is makes
-  act_goes (Makes asked happened) plan been before own others awaited left old new (steps, sum, is, tells) makes =
-      one_goes _ own others (Moved asked steps sum (nodes_up (life_after been) plan.nodes)) awaited left old new (λ between mid came. order_clock asked steps sum happened old mid came.0 tells) is makes
+  act_goes (Makes asked happened) plan been before own others awaited left old new (outcome, is, OfSteps steps sum moved tells) makes =
+      one_goes _ own others (Moved asked steps sum (nodes_up (life_after been) plan.nodes)) awaited left old new (λ between mid came. order_clock asked steps sum happened old mid came.0 tells) (is ∙ ap (λ (o : Outcome). o ∷ []) moved) makes
+  act_goes (Makes asked happened) plan been before own others awaited left old new (outcome, is, OfSettle result steps settles moved tells) makes =
+      one_goes _ own others (Settling result steps) awaited left old new
+      (λ between mid came. settling_still result steps awaited between old mid came ∙ ap (λ (o : ClusterOrder). seconds_by_order o (shown old)) (sym settles)) (is ∙ ap (λ (o : Outcome). o ∷ []) moved) makes
+  act_goes (Makes asked happened) plan been before own others awaited left old new (outcome, is, OfMap user told maps moved tells) makes =
+      one_goes _ own others (Mapped user told) awaited left old new
+      (λ between mid came. ap (λ (w : World D). shown w) came.2 ∙ ap (λ (o : ClusterOrder). seconds_by_order o (shown old)) (sym maps)) (is ∙ ap (λ (o : Outcome). o ∷ []) moved) makes
   act_goes (Abandons k) plan been before own others awaited left old new (call, ticket, is) makes =
       one_goes _ own others (Abandoned k call ticket) awaited left old new (λ between mid came. came.1.did.clock) is makes
 

@@ -47,7 +47,7 @@ use Rattle.drive_tape.specs.Stops.{of_line}
 use Rattle.drive_tape.specs.Talks.{Converse}
 use Rattle.drive_tape.specs.Worlds.{WorldIsAt, IsSince, AreLives, HasCauses}
 use Rattle.drive_tape.proofs.AtFirst.{first_lives, node_within}
-use Rattle.drive_tape.proofs.Kept.{kept_in, none_waits, letters_in, whole_in, one_map_in, names_in}
+use Rattle.drive_tape.proofs.Kept.{kept_in, none_waits, letters_in, whole_in, one_map_in, names_in, maps_right_in}
 use Rattle.drive_tape.proofs.OwnNodes.{NodesStay, all_stay, at_nodes_more}
 use Rattle.drive_tape.proofs.Wholes.{stays_whole}
 use Rattle.drive_tape.proofs.Led.{AreLinked, MayLackOne, led_more, to_none, to_more, to_linked, to_waits}
@@ -364,6 +364,8 @@ module _ {D : Type 0} (on : View D) (start : World D) (left0 left1 left2 held0 h
           (plan_stays on (p.point.outcomes ++ new) [] h.since.0 start world h.since.1.made).0;
       sound = whole_in on start world begins stop p.handled midst p.acts h.behind _ entries sessions is_driven (p.point.outcomes ++ new) h.since.0 h.since.1.made refl nodes_are;
       one_map = one_map_in on start world begins stop p.handled midst p.acts h.behind _ entries sessions is_driven (p.point.outcomes ++ new) h.since.0 h.since.1.made refl nodes_are;
+      maps_right = λ is. maps_right_in on start world begins stop p.handled midst p.acts h.behind _ entries sessions is_driven (p.point.outcomes ++ new) h.since.0 h.since.1.made refl nodes_are h.lacking h.extra led is
+          (behind_none (plan_of start) _ _ midst h.behind h.tail h.extra sessions (subst (λ (s : Stop). IsLeftOff (plan_of start) _ s _ midst h.behind h.tail h.extra sessions) is h.off));
       named = names_in on start world begins stop p.handled midst p.acts h.behind _ entries sessions is_driven (p.point.outcomes ++ new) h.since.0 h.since.1.made refl nodes_are h.lacking h.extra led;
       quiet = stays_whole on (p.point.outcomes ++ new) h.since.0 start world;
       kept = kept_in on start world begins stop p.handled midst p.acts h.behind _ entries sessions is_driven (p.point.outcomes ++ new) h.since.0 h.since.1.made refl nodes_are
@@ -406,6 +408,14 @@ none_left : (plan : Plan) (been : List Act) (stop : Stop) (old : List Session) (
 none_left plan been stop old [] [] entries extra new none off = off.2
 none_left plan been stop old [] (a ∷ acts) entries extra new none off = absurd off
 none_left plan been stop old (line ∷ left) acts entries extra new none off = absurd (let never : line ∷ left ≡ [] = none in cc)
+
+-- behind a line no step more was made
+behind_none : (plan : Plan) (been : List Act) (old : List Session) (left : List (List ℕ)) (acts : List (List Act)) (entries : List Entry) (extra : List Made) (new : List Session)
+    → IsLeftOff plan been BehindLine old left acts entries extra new → extra ≡ []
+behind_none plan been old [] [] entries extra new off = off.1
+behind_none plan been old (line ∷ []) ([] ∷ []) entries extra new off = absurd off.0.in_vain
+behind_none plan been old (line ∷ []) ((act ∷ acts) ∷ []) entries extra new off = off.2
+behind_none plan been old left acts entries extra new off = absurd off
 
 in_midst : (line : List ℕ) (midst : List (List ℕ)) → midst ≡ line ∷ [] → ended line ≡ flat_map ended midst ++ []
 in_midst line midst is = sym (append-nil (ended line)) ∙ sym (append-nil (ended line ++ [])) ∙ ap (λ (ls : List (List ℕ)). flat_map ended ls ++ []) (sym is)

@@ -24,11 +24,11 @@ use Rattle.session_model.specs.Events.NodeLife.{Up}
 use Rattle.session_model.specs.Lives.{life_after, failed_by, failed_in}
 use Rattle.session_model.specs.Turns.{Turn, IsReadyToAsk, turn_after_event}
 use Rattle.session_model.specs.Turns.Turn.{Falling, Asking}
-use Rattle.session_model.specs.Run.{refusal, cluster_refusal, fault_if, is_no_node, work_fault, start_fault, loss_fault}
+use Rattle.session_model.specs.Run.{Made, refusal, cluster_refusal, fault_if, is_no_node, work_fault, start_fault, loss_fault}
 use Rattle.node_store.specs.Disks.{View}
 use Rattle.cluster_world.specs.Lives.{nodes_up}
-use Rattle.cluster_world.specs.Outcomes.{moved_in, left_after}
-use Rattle.cluster_world.specs.Outcomes.Outcome.{Moved}
+use Rattle.cluster_world.specs.Outcomes.{Outcome, made_of, left_after}
+use Rattle.cluster_world.specs.declared.fault.StepFault.{StepFault}
 use Rattle.cluster_world.specs.Worlds.{plan_of, life_of, book_of}
 use Rattle.cluster_world.specs.declared.world.World.{World}
 use Rattle.drive_tape.specs.declared.cluster.Cluster.{Cluster}
@@ -41,8 +41,14 @@ use Rattle.drive_tape.specs.Happenings.{event_seen, fallen_by, WritesOrStops}
 use Rattle.drive_tape.specs.Lines.{IsStarted, LineDid, LineStopped}
 use Rattle.drive_tape.specs.Moved.{OrderIsFit, MovedSo}
 use Rattle.drive_tape.specs.Orders.{admitted_seen}
-use Rattle.drive_tape.specs.Led.{Led}
-use Rattle.drive_tape.specs.Points.{Point, IsAtPoint}
+use Rattle.drive_tape.specs.Denials.{stop_by}
+use Rattle.drive_tape.specs.Drive.{IsDenied}
+use Rattle.drive_tape.specs.Led.{Led, IsUntold, TellsMove, DeniesMove}
+use Rattle.drive_tape.specs.Led.TellsMove.{OfSteps, OfSettle, OfMap}
+use Rattle.drive_tape.specs.Led.DeniesMove.{DeniedSteps, DeniedSettle}
+use Rattle.drive_tape.specs.declared.drove.TapeFault.{TapeFault}
+use Rattle.drive_tape.specs.declared.drove.Stop.TheVariants.{Bad}
+use Rattle.drive_tape.specs.Points.{Point, IsAtOwnNode, AreAtOwnNodes, IsAtPoint}
 use Rattle.drive_tape.specs.Stops.{of_write}
 use Rattle.drive_tape.specs.Talks.{HasOwnTicket, IsUpAt}
 use Rattle.drive_tape.specs.Worlds.{AreLives, HasCauses}
@@ -68,6 +74,9 @@ refusal_alike plan been world lives (order.Push node) = refl
 refusal_alike plan been world lives (order.Group node) = node_alike plan node (is_no_node plan node) refl _ _ (λ there. ap work_fault (lives node there))
 refusal_alike plan been world lives (order.Conclude node) = node_alike plan node (is_no_node plan node) refl _ _ (λ there. ap work_fault (lives node there))
 refusal_alike plan been world lives (order.Regroup node) = node_alike plan node (is_no_node plan node) refl _ _ (λ there. ap work_fault (lives node there))
+refusal_alike plan been world lives (order.Report node) = refl
+refusal_alike plan been world lives order.Settle = refl
+refusal_alike plan been world lives (order.Maps user) = refl
 refusal_alike plan been world lives (order.Tick seconds) = refl
 refusal_alike plan been world lives order.Sum = refl
 refusal_alike plan been world lives (order.Widen node user id to) = ap (λ (rest : Option SiteFault). or_else (fault_if (not (is_user plan user)) BadLine) rest) (both (is_no_node plan node) (is_no_node plan to) refl)
@@ -100,6 +109,9 @@ turn_asks (plain.HasSent count) is = refl
 turn_asks (plain.HasWidened did) is = refl
 turn_asks (plain.HasGrouped epoch) is = refl
 turn_asks (plain.HasFormed epoch members) is = refl
+turn_asks plain.HasSettled is = refl
+turn_asks (plain.WasAbsent member) is = refl
+turn_asks (plain.HasMapped user told) is = refl
 turn_asks plain.HasTicked is = refl
 turn_asks (plain.HasSummed sum) is = refl
 turn_asks (plain.HasFaulted node) is = absurd (let never : ◌≡◌ {A = Option ℕ} (Some node) None = is in cc)
@@ -116,6 +128,9 @@ turn_falls (plain.HasSent count) n is = absurd (let never : ◌≡◌ {A = Optio
 turn_falls (plain.HasWidened did) n is = absurd (let never : ◌≡◌ {A = Option ℕ} None (Some n) = is in cc)
 turn_falls (plain.HasGrouped epoch) n is = absurd (let never : ◌≡◌ {A = Option ℕ} None (Some n) = is in cc)
 turn_falls (plain.HasFormed epoch members) n is = absurd (let never : ◌≡◌ {A = Option ℕ} None (Some n) = is in cc)
+turn_falls plain.HasSettled n is = absurd (let never : ◌≡◌ {A = Option ℕ} None (Some n) = is in cc)
+turn_falls (plain.WasAbsent member) n is = absurd (let never : ◌≡◌ {A = Option ℕ} None (Some n) = is in cc)
+turn_falls (plain.HasMapped user told) n is = absurd (let never : ◌≡◌ {A = Option ℕ} None (Some n) = is in cc)
 turn_falls plain.HasTicked n is = absurd (let never : ◌≡◌ {A = Option ℕ} None (Some n) = is in cc)
 turn_falls (plain.HasSummed sum) n is = absurd (let never : ◌≡◌ {A = Option ℕ} None (Some n) = is in cc)
 turn_falls (plain.HasFaulted node) n is = ap (λ (m : ℕ). Falling 1 m 1) (some_same node n is)
@@ -140,6 +155,9 @@ same_apart (plain.HasSent count) m n life is other = refl
 same_apart (plain.HasWidened did) m n life is other = refl
 same_apart (plain.HasGrouped epoch) m n life is other = refl
 same_apart (plain.HasFormed epoch members) m n life is other = refl
+same_apart plain.HasSettled m n life is other = refl
+same_apart (plain.WasAbsent member) m n life is other = refl
+same_apart (plain.HasMapped user told) m n life is other = refl
 same_apart plain.HasTicked m n life is other = refl
 same_apart (plain.HasSummed sum) m n life is other = refl
 same_apart (plain.HasFaulted node) m n life is other = turned_apart node n _ life (λ same. other (same ∙ some_same node m is))
@@ -164,6 +182,9 @@ still_up (plain.HasSent count) n was is = (was, refl)
 still_up (plain.HasWidened did) n was is = (was, refl)
 still_up (plain.HasGrouped epoch) n was is = (was, refl)
 still_up (plain.HasFormed epoch members) n was is = (was, refl)
+still_up plain.HasSettled n was is = (was, refl)
+still_up (plain.WasAbsent member) n was is = (was, refl)
+still_up (plain.HasMapped user told) n was is = (was, refl)
 still_up plain.HasTicked n was is = (was, refl)
 still_up (plain.HasSummed sum) n was is = (was, refl)
 still_up (plain.HasFaulted node) n was is = absurd (let never : ◌≡◌ {A = Option ℕ} (Some node) None = is in cc)
@@ -177,13 +198,35 @@ module _ (plan : Plan) (been : List Act) (one : tape.ClusterOrder) (event : Clus
   up_apart : (m : ℕ) → fallen_by event ≡ Some m → n ≢ m → IsUpAt plan (been ++ Makes one event ∷ []) n
   up_apart m is other = record { there = up.there; boot = up.boot; up = life_more been (Makes one event) n (Up 1) ∙ same_apart event m n (life_after been n) is other ∙ up.up }
 
+-- no session begins or leaves in what an order told, or was denied
+told_own : (sessions : List Session) (up : List ℕ) (asked : tape.ClusterOrder) (event : ClusterEvent) (outcome : Outcome) → TellsMove up asked event outcome → IsAtOwnNode sessions outcome
+told_own sessions up asked event outcome (OfSteps steps sum is tells) = subst (IsAtOwnNode sessions) (sym is) tt
+told_own sessions up asked event outcome (OfSettle result steps settles is tells) = subst (IsAtOwnNode sessions) (sym is) tt
+told_own sessions up asked event outcome (OfMap user told maps is tells) = subst (IsAtOwnNode sessions) (sym is) tt
+
+denied_own : (sessions : List Session) (asked : tape.ClusterOrder) (cause : StepFault) (outcome : Outcome) → DeniesMove asked cause outcome → IsAtOwnNode sessions outcome
+denied_own sessions asked cause outcome (DeniedSteps steps sum up is denied) = subst (IsAtOwnNode sessions) (sym is) tt
+denied_own sessions asked cause outcome (DeniedSettle steps settles is) = subst (IsAtOwnNode sessions) (sym is) tt
+
+denied_made : (asked : tape.ClusterOrder) (cause : StepFault) (outcome : Outcome) → DeniesMove asked cause outcome → made_of outcome ≡ Made.Moves asked
+denied_made asked cause outcome (DeniedSteps steps sum up is denied) = ap made_of is
+denied_made asked cause outcome (DeniedSettle steps settles is) = ap made_of is ∙ ap Made.Moves (sym settles)
+
+denied_untold : (asked : tape.ClusterOrder) (cause : StepFault) (outcome : Outcome) → DeniesMove asked cause outcome → IsUntold outcome
+denied_untold asked cause outcome (DeniedSteps steps sum up is denied) = subst IsUntold (sym is) (cause, denied)
+denied_untold asked cause outcome (DeniedSettle steps settles is) = subst IsUntold (sym is) tt
+
+denied_so : (asked : tape.ClusterOrder) (cause : StepFault) (outcome : Outcome) (fault : TapeFault) → DeniesMove asked cause outcome → stop_by cause ≡ Bad fault → IsDenied fault outcome
+denied_so asked cause outcome fault (DeniedSteps steps sum up is denied) stops = subst (IsDenied fault) (sym is) (cause, denied, stops)
+denied_so asked cause outcome fault (DeniedSettle steps settles is) stops = subst (IsDenied fault) (sym is) stops
+
 -- what came of the steps of a line
 module _ {D : Type 0} (on : View D) (start : World D) (plan : Plan) (p : Point) (line : List ℕ) (event : OwnEvent) (cluster : Cluster D) (h : Happens on start plan p line event cluster) where
   abbrev pub moved_point : Option (List ℕ) → Point
   moved_point held = record p {
     turn = turn_after_event (event_seen event);
     been = p.been ++ Makes h.order (event_seen event) ∷ [];
-    outcomes = p.outcomes ++ moved_in h.old.world h.order h.happened.steps ∷ [];
+    outcomes = p.outcomes ++ h.happened.outcome ∷ [];
     awaited = left_after (fallen_by (event_seen event)) p.awaited;
     held = held;
   }
@@ -204,13 +247,11 @@ module _ {D : Type 0} (on : View D) (start : World D) (plan : Plan) (p : Point) 
   same_up : nodes_up (life_of h.old.world) (plan_of h.old.world).nodes ≡ nodes_up (life_after p.been) plan.nodes
   same_up = ap (λ (pl : Plan). nodes_up (life_of h.old.world) pl.nodes) h.plan_is ∙ up_alike plan (life_of h.old.world) (life_after p.been) h.shows.lives
 
-  linked_so : Led plan p.been p.outcomes (Makes h.order (event_seen event)) (moved_in h.old.world h.order h.happened.steps ∷ [])
-  linked_so = (
-    h.happened.steps,
-    sum_of (book_of h.old.world),
-    ap (λ (up : List ℕ). Moved h.order h.happened.steps (sum_of (book_of h.old.world)) up ∷ []) same_up,
-    h.happened.tells,
-  )
+  linked_so : Led plan p.been p.outcomes (Makes h.order (event_seen event)) (h.happened.outcome ∷ [])
+  linked_so = (h.happened.outcome, refl, subst (λ (up : List ℕ). TellsMove up h.order (event_seen event) h.happened.outcome) same_up h.happened.tells)
+
+  own_so : AreAtOwnNodes p.sessions (h.happened.outcome ∷ [])
+  own_so = (told_own p.sessions _ h.order (event_seen event) h.happened.outcome h.happened.tells, tt)
 
   pub moved_started : (held : Option (List ℕ)) → Appends p.held held (written_of (event_entries (event_seen event))) → IsStarted plan p (moved_point held) (Moves h.order)
   moved_started held gave = record {
@@ -219,9 +260,9 @@ module _ {D : Type 0} (on : View D) (start : World D) (plan : Plan) (p : Point) 
     said = event_entries (event_seen event);
     starts = (event_seen event, is_event, refl, refl);
     acted = (refl, refl);
-    outcomes = moved_in h.old.world h.order h.happened.steps ∷ [];
+    outcomes = h.happened.outcome ∷ [];
     linked = linked_so;
-    at_nodes = (tt, tt);
+    at_nodes = own_so;
     came = refl;
     been = refl;
     gave = gave;
@@ -230,7 +271,7 @@ module _ {D : Type 0} (on : View D) (start : World D) (plan : Plan) (p : Point) 
   pub stops_moved : (reason : WriteStop) (held : Option (List ℕ)) → WritesOrStops p.held held (Err reason) (event_entries (event_seen event)) → LineStopped on start plan p line (of_write reason) held cluster.world
   stops_moved reason held wrote =
       stops_event on start plan p (Moves h.order) line h.spelled h.accepted (Makes h.order (event_seen event)) (event_entries (event_seen event)) (turn_after_event (event_seen event)) p.sessions
-      (event_seen event, is_event, refl, refl) (refl, refl) (moved_in h.old.world h.order h.happened.steps ∷ []) linked_so (tt, tt) reason held cluster.world wrote
+      (event_seen event, is_event, refl, refl) (refl, refl) (h.happened.outcome ∷ []) linked_so own_so reason held cluster.world wrote
       (left_after (fallen_by (event_seen event)) p.awaited, h.happened.at.at) lives_now causes_now
 
   pub may_fall : (held : Option (List ℕ)) (fallen : Option ℕ) → fallen_by (event_seen event) ≡ fallen → MayFallBy on start plan (moved_point held) fallen cluster
@@ -269,5 +310,6 @@ pub moved_in_vain : {D : Type 0} (on : View D) (start : World D) (plan : Plan) (
 moved_in_vain on start plan p line one stop held old world same spelled accepted lives causes so =
     let denied = so.2 in
     let gone = so.3 in
-    in_vain on start plan p line held world same (Moves one) spelled accepted (moved_in old one so.1) (so.0, refl) (denied.why, denied.denied) tt (gone.0, gone.1.at) (gone.1.causes (failed_in p.been) causes) denied.why stop denied.stops
-    (λ f is. (denied.why, denied.denied, is)) (λ f is n there. so.4 f (denied.stops ∙ is) n ∙ lives n there)
+    in_vain on start plan p line held world same (Moves one) spelled accepted so.1 (so.0, denied_made one denied.why so.1 denied.denied) (denied_untold one denied.why so.1 denied.denied)
+    (denied_own p.sessions one denied.why so.1 denied.denied) (gone.0, gone.1.at) (gone.1.causes (failed_in p.been) causes) denied.why stop denied.stops
+    (λ f is. denied_so one denied.why so.1 f denied.denied is) (λ f is n there. so.4 f (denied.stops ∙ is) n ∙ lives n there)

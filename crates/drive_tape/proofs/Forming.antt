@@ -1,18 +1,16 @@
 -- What opening a group, concluding it and regrouping make of a world.
 use Rattle.std.specs.Prelude.{IfOk}
-use Rattle.std.proofs.Common.{◌≡◌, ◌≢◌, ◌⊎◌, ⊎_elim, inl, inr, ℕ, true, false, List, [], ◌∷◌, ◌++◌, None, Result, Ok, Err, refl, sym, ap, ◌∙◌, subst}
-use Rattle.object_model.specs.Sets.{nodes_in}
+use Rattle.std.proofs.Common.{◌≡◌, ◌⊎◌, ⊎_elim, inr, ℕ, true, false, List, [], ◌∷◌, ◌++◌, None, Result, Ok, Err, refl, sym, ap, ◌∙◌, subst}
 use Rattle.mail_model.specs.Identity.{EpochId}
 use Rattle.mail_model.specs.Tape.{ClusterOrder as order}
-use Rattle.session_model.specs.Sums.{sum_of}
 use Rattle.session_model.specs.Acts.{Act}
 use Rattle.session_model.specs.Events.{NodeLife, MayFault}
 use Rattle.session_model.specs.Lives.{life_after}
 use Rattle.node_store.specs.Disks.{View}
-use Rattle.cluster_world.specs.Worlds.{state_of, plan_of, life_of, life_in, book_of}
+use Rattle.cluster_world.specs.Worlds.{state_of, plan_of, life_of, life_in}
 use Rattle.cluster_world.specs.Steps.{IsStep, SaysSo, FallsSo, WasToWork}
 use Rattle.cluster_world.specs.Turns.{life_after_step}
-use Rattle.cluster_world.specs.Regroups.{AllWentOn, BeginsByGroup, FormsBy, EndsBy, LacksRoom, RegroupsSo, MakesRegroup, HasRegrouped}
+use Rattle.cluster_world.specs.Regroups.{AllWentOn, FormsBy, EndsBy, LacksRoom, RegroupsSo, MakesRegroup, HasRegrouped}
 use Rattle.cluster_world.specs.Made.{StepMade, MakesSteps, IsPost, IsOfRegroup, AreOfRegroup, has_failed}
 use Rattle.cluster_world.specs.Outcomes.{Outcome, Awaited, moved_in, fallen_in, left_after_all}
 use Rattle.cluster_world.specs.declared.world.World.{World}
@@ -21,7 +19,6 @@ use Rattle.cluster_world.specs.declared.step.Step.TheVariants as step
 use Rattle.cluster_world.specs.declared.step.Said.{Said}
 use Rattle.cluster_world.specs.declared.step.Said.TheVariants as said
 use Rattle.cluster_world.specs.declared.fault.StepFault.{StepFault}
-use Rattle.cluster_world.specs.declared.fault.StepFault.TheVariants as fault
 use Rattle.cluster_world.specs.declared.regrouping.Regroup.{Regroup}
 use Rattle.cluster_world.specs.declared.regrouping.Regroup.TheVariants.{Formed, Fault}
 use Rattle.drive_tape.specs.declared.drove.Stop.{Stop}
@@ -29,6 +26,7 @@ use Rattle.drive_tape.specs.declared.event.ClusterEvent.{ClusterEvent}
 use Rattle.drive_tape.specs.declared.event.ClusterEvent.TheVariants.{HasGrouped, HasFormed, HasFaulted}
 use Rattle.drive_tape.specs.Denials.{stop_by}
 use Rattle.drive_tape.specs.Forms.{IsSaidOfForming, FormsTo, RegroupsTo}
+use Rattle.drive_tape.specs.Led.DeniesMove.{DeniedSteps}
 use Rattle.drive_tape.specs.Moved.{OrderIsFit, Happened, MovedSo}
 use Rattle.drive_tape.proofs.Chains.{went_more}
 use Rattle.drive_tape.proofs.Posting.{faults_after}
@@ -125,8 +123,8 @@ module _ {D : Type 0} (on : View D) (start old : World D) (outcomes : List Outco
       → MovedSo on start outcomes awaited been old (order.Regroup node) (Err stop) new
   denied_first new result steps why stop made lacks stops = (
     (λ always. always),
-    steps,
-    record { why = why; denied = inr (lacks.none, lacks.is); stops = stops },
+    moved_in old (order.Regroup node) steps,
+    record { why = why; denied = DeniedSteps steps _ _ refl (inr (lacks.none, lacks.is)); stops = stops },
     (
       left_after_all steps awaited,
       went_more on start outcomes awaited old fit.at (moved_in old (order.Regroup node) steps) (left_after_all steps awaited) new ((result, made), refl, refl, refl) tt,

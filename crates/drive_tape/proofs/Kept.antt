@@ -42,8 +42,8 @@ use Rattle.cluster_world.specs.Opens.{IsAtBeginning}
 use Rattle.cluster_world.specs.Owing.{AreBlind, IsOfBlind, AllBlind, AreKnown, AreOfSessions, WorldOwes}
 use Rattle.cluster_world.specs.Made.{StepMade, IsPost, IsOfRegroup, AreOfRegroup}
 use Rattle.cluster_world.specs.Outcomes.{Outcome, Awaited, Came, Makes, made_of, asked_by_outcome, answered_by_outcome}
-use Rattle.cluster_world.proofs.Ordered.{AreStepsOf, IsPushOf, order_are}
-use Rattle.cluster_world.specs.Outcomes.Outcome.{Began, Refused, Fell, Broke, Answers, StillPending, Unanswered, GaveUp, Abandoned, KeptUp, Left, Moved}
+use Rattle.cluster_world.proofs.Ordered.{AreStepsOf, IsPushOf, IsReportOf, order_are}
+use Rattle.cluster_world.specs.Outcomes.Outcome.{Began, Refused, Fell, Broke, Answers, StillPending, Unanswered, GaveUp, Abandoned, KeptUp, Left, Moved, Settling, Mapped}
 use Rattle.cluster_world.specs.declared.world.World.{World}
 use Rattle.cluster_world.specs.declared.step.Step.TheVariants as step
 use Rattle.cluster_world.specs.Steps.{IsBlind}
@@ -52,7 +52,12 @@ use Rattle.cluster_model.specs.Progress.Ask.{Pending}
 use Rattle.cluster_world.proofs.Lasting.{pending_has_letter}
 use Rattle.cluster_world.proofs.Owed.{none_pending}
 use Rattle.cluster_world.proofs.Wholes.{world_is_whole, one_map_per_epoch}
-use Rattle.drive_tape.specs.Drive.{HasLetters, NamesTheUp}
+use Rattle.cluster_world.proofs.SettledWhole.{settled_maps_are_right}
+use Rattle.cluster_world.specs.Rests.{HasRightMaps}
+use Rattle.cluster_world.specs.Settling.{IsAtRest, IsOfSettle, AreOfSettle}
+use Rattle.cluster_world.specs.Settling.IsOfSettle.{Posts, Pushes, Reports}
+use Rattle.drive_tape.proofs.AtRest.{ends_at_rest}
+use Rattle.drive_tape.specs.Drive.{HasLetters, NamesTheUp, EndsSettled}
 use Rattle.drive_tape.specs.Kept.{IsBlindOrder, AreBlindLines, AreToldOrBlind, KeptIn}
 use Rattle.drive_tape.specs.Led.{AreLedTo}
 use Rattle.drive_tape.specs.Points.{IsAtOwnNode, AreAtOwnNodes}
@@ -91,6 +96,20 @@ regroup_blind nodes node (one ∷ steps) all = (
   regroup_blind nodes node steps all.1,
 )
 
+reports_blind : (nodes node : ℕ) (steps : List StepMade) → All (IsReportOf node) steps → AreBlind nodes steps
+reports_blind nodes node [] all = tt
+reports_blind nodes node (one ∷ steps) all =
+    let is : IsReportOf node one = All-head (IsReportOf node) one steps all in (subst (IsBlind nodes) (sym is.1) tt, reports_blind nodes node steps (All-tail (IsReportOf node) one steps all))
+
+of_settle_blind : (nodes : ℕ) (one : StepMade) → nodes ≡ 1 → IsOfSettle one → IsBlind nodes one.step
+of_settle_blind nodes one alone (Posts post) = subst (IsBlind nodes) (sym post.1) tt
+of_settle_blind nodes one alone (Pushes from to apart is) = subst (IsBlind nodes) (sym is) alone
+of_settle_blind nodes one alone (Reports from to apart is) = subst (IsBlind nodes) (sym is) tt
+
+settle_blind : (nodes : ℕ) (steps : List StepMade) → nodes ≡ 1 → AreOfSettle steps → AreBlind nodes steps
+settle_blind nodes [] alone all = tt
+settle_blind nodes (one ∷ steps) alone all = (of_settle_blind nodes one alone all.0, settle_blind nodes steps alone all.1)
+
 order_blind : (nodes : ℕ) (asked : ClusterOrder) (steps : List StepMade) → AreStepsOf asked steps → IsBlindOrder nodes (Some (tape.Order.Moves asked)) → AreBlind nodes steps
 order_blind nodes (order.Crash node) steps (result, are) blind = subst (AreBlind nodes) (sym are) (tt, tt)
 order_blind nodes (order.Start node) steps (result, are) blind = absurd blind
@@ -105,6 +124,9 @@ order_blind nodes (order.Group node) steps (result, are) blind = subst (AreBlind
 order_blind nodes (order.Conclude node) steps (result, are) blind = subst (AreBlind nodes) (sym are) (tt, tt)
 order_blind nodes (order.Regroup node) steps are blind = regroup_blind nodes node steps are
 order_blind nodes (order.Tick seconds) steps (result, are) blind = subst (AreBlind nodes) (sym are) (tt, tt)
+order_blind nodes (order.Report node) steps are blind = reports_blind nodes node steps are
+order_blind nodes order.Settle steps are blind = absurd are
+order_blind nodes (order.Maps user) steps are blind = absurd are
 order_blind nodes order.Sum steps are blind = subst (AreBlind nodes) (sym are) tt
 
 line_blind : (nodes : ℕ) (lines : List (List ℕ)) (line : List ℕ) → AreBlindLines nodes lines → Among line lines → IsBlindOrder nodes (tape_order line)
@@ -121,6 +143,8 @@ all_blind {D} on nodes (outcome ∷ more) awaited left old new (between, mid, ca
   where
     one : (outcome : Outcome) → Came on outcome awaited old between mid → ((asked : ClusterOrder) → made_of outcome ≡ Made.Moves asked → IsBlindOrder nodes (Some (tape.Order.Moves asked))) → IsOfBlind nodes outcome
     one (Moved asked steps sum up) (made, summed, waits, were) may = order_blind nodes asked steps (order_are on asked steps old mid made) (may asked refl)
+    one (Settling result steps) (makes, are, left_is) may = settle_blind nodes steps (may order.Settle refl) (subst AreOfSettle are makes.of)
+    one (Mapped user told) came may = tt
     one (Began k node asked ticket) came may = tt
     one (Refused k node asked) came may = tt
     one (Fell k node asked) came may = tt
@@ -225,6 +249,8 @@ module _ {D : Type 0} (on : View D) (start last : World D) (begins : IsAtBeginni
       let found = moved_by_line plan stop handled midst acts behind made entries sessions driven (order.Tick seconds) (made_in _ among) in
       inr (ticked_by lines found.0 seconds found.1 found.2)
   of_sessions (Moved asked made_steps sum up) among = tt
+  of_sessions (Settling result made_steps) among = tt
+  of_sessions (Mapped user told) among = tt
 
   -- the disks tell what they hold, or no step needs it
   pub known : AreToldOrBlind on start lines → AreKnown on start outcomes
@@ -262,6 +288,12 @@ module _ {D : Type 0} (on : View D) (start last : World D) (begins : IsAtBeginni
 
   pub one_map_in : AreToldOrBlind on start lines → HasOneMap (state_of last)
   one_map_in told = one_map_per_epoch on plan lines outcomes awaited start last (record { begins = begins; known = known told; makes = steps; sessions = of_sessions })
+
+  -- a world that settled last is at rest, and its maps are right
+  pub maps_right_in : (lacking : List Asked) (extra : List Made) → AreLedTo stop plan [] [] done outcomes lacking extra → stop ≡ BehindLine → extra ≡ [] → AreToldOrBlind on start lines → EndsSettled done → IsAtRest (state_of last) × HasRightMaps on (state_of last)
+  maps_right_in lacking extra led is none told ends =
+      let rest = ends_at_rest on plan outcomes awaited start last steps stop done lacking extra led is none ends in
+      (rest, settled_maps_are_right on plan lines outcomes awaited start last (record { begins = begins; known = known told; makes = steps; sessions = of_sessions }) rest)
 
   -- the members that a regroup names are the nodes that were up
   pub names_in : (lacking : List Asked) (extra : List Made) → AreLedTo stop plan [] [] done outcomes lacking extra → AreToldOrBlind on start lines → NamesTheUp plan done

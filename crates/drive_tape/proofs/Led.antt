@@ -11,12 +11,15 @@ use Rattle.session_model.specs.Talk.{Exchange}
 use Rattle.session_model.specs.Acts.{Act}
 use Rattle.session_model.specs.Acts.Act.{Opens, Does, Faults, StillWaits, Leaves, Makes, Abandons}
 use Rattle.session_model.specs.Acts.Deed.{IsFed, Hears, IsAnswered, IsGivenUp, Falls, Closes}
+use Rattle.mail_model.specs.Tape.{ClusterOrder}
+use Rattle.session_model.specs.Events.{ClusterEvent}
 use Rattle.session_model.specs.Logs.{Asked, asked_by, answered_by}
 use Rattle.session_model.specs.Run.{Made, Stop, made_by}
 use Rattle.session_model.specs.Run.Stop.{BehindLine, Denied, SinkFailed, OutOfMemory}
 use Rattle.cluster_world.specs.Outcomes.{Outcome, made_of, asked_by_outcome, answered_by_outcome}
-use Rattle.cluster_world.specs.Outcomes.Outcome.{Began, Refused, Fell, Broke, StillPending, Unanswered, KeptUp, Moved}
-use Rattle.drive_tape.specs.Led.{Led, AreLed, AreLedTo, Begins, EndsWith, IsUntold, CameToNothing}
+use Rattle.cluster_world.specs.Outcomes.Outcome.{Began, Refused, Fell, Broke, StillPending, Unanswered, KeptUp, Moved, Settling}
+use Rattle.drive_tape.specs.Led.{Led, AreLed, AreLedTo, Begins, EndsWith, IsUntold, TellsMove, CameToNothing}
+use Rattle.drive_tape.specs.Led.TellsMove.{OfSteps, OfSettle, OfMap}
 
 -- one act
 pub led_one : (plan : Plan) (been : List Act) (before : List Outcome) (act : Act) (own : List Outcome) → Led plan been before act own → AreLed plan been before (act ∷ []) own
@@ -114,6 +117,14 @@ hears_linked k one (Some asked) own is led = by (subst (λ (c : Option Call). Be
     by (node, inl (ticket, are)) = subst (λ (os : List Outcome). AreLinked (Does k (Hears one) ∷ []) os [] []) (sym are) (record { made = rw is refl; asked = rw is refl; answered = refl })
     by (node, inr are) = subst (λ (os : List Outcome). AreLinked (Does k (Hears one) ∷ []) os [] []) (sym are) (record { made = rw is refl; asked = rw is refl; answered = refl })
 
+told_linked : (up : List ℕ) (asked : ClusterOrder) (event : ClusterEvent) (outcome : Outcome) → TellsMove up asked event outcome → AreLinked (Makes asked event ∷ []) (outcome ∷ []) [] []
+told_linked up asked event outcome (OfSteps steps sum is tells) =
+    subst (λ (o : Outcome). AreLinked (Makes asked event ∷ []) (o ∷ []) [] []) (sym is) (record { made = refl; asked = refl; answered = refl })
+told_linked up asked event outcome (OfSettle result steps settles is tells) =
+    subst (λ (o : Outcome). AreLinked (Makes asked event ∷ []) (o ∷ []) [] []) (sym is) (record { made = ap (λ (o : ClusterOrder). Made.Moves o ∷ []) (sym settles); asked = refl; answered = refl })
+told_linked up asked event outcome (OfMap user told maps is tells) =
+    subst (λ (o : Outcome). AreLinked (Makes asked event ∷ []) (o ∷ []) [] []) (sym is) (record { made = ap (λ (o : ClusterOrder). Made.Moves o ∷ []) (sym maps); asked = refl; answered = refl })
+
 one_linked : (plan : Plan) (been : List Act) (before : List Outcome) (act : Act) (own : List Outcome) → Led plan been before act own → AreLinked (act ∷ []) own [] []
 one_linked plan been before (Does k (Hears one)) own led = hears_linked k one one.call own refl led
 one_linked plan been before (Opens protocol node greeting) own led = subst (λ (os : List Outcome). AreLinked (Opens protocol node greeting ∷ []) os [] []) (sym led) (record { made = refl; asked = refl; answered = refl })
@@ -125,7 +136,7 @@ one_linked plan been before (Does k Closes) own led = subst (λ (os : List Outco
 one_linked plan been before (Faults node) own led = subst (λ (os : List Outcome). AreLinked (Faults node ∷ []) os [] []) (sym led.0) (record { made = refl; asked = refl; answered = refl })
 one_linked plan been before (StillWaits k) own led = subst (λ (os : List Outcome). AreLinked (StillWaits k ∷ []) os [] []) (sym led.1) (record { made = refl; asked = refl; answered = refl })
 one_linked plan been before (Leaves k user) own led = subst (λ (os : List Outcome). AreLinked (Leaves k user ∷ []) os [] []) (sym led.1) (record { made = refl; asked = refl; answered = refl })
-one_linked plan been before (Makes asked event) own led = subst (λ (os : List Outcome). AreLinked (Makes asked event ∷ []) os [] []) (sym led.2) (record { made = refl; asked = refl; answered = refl })
+one_linked plan been before (Makes asked event) own (outcome, are, tells) = subst (λ (os : List Outcome). AreLinked (Makes asked event ∷ []) os [] []) (sym are) (told_linked _ asked event outcome tells)
 one_linked plan been before (Abandons k) own led = subst (λ (os : List Outcome). AreLinked (Abandons k ∷ []) os [] []) (sym led.2) (record { made = refl; asked = refl; answered = refl })
 
 pub led_linked : (plan : Plan) (been : List Act) (before : List Outcome) (acts : List Act) (outcomes : List Outcome) → AreLed plan been before acts outcomes → AreLinked acts outcomes [] []
@@ -148,6 +159,7 @@ untold_linked : (outcome : Outcome) → IsUntold outcome → AreLinked [] (outco
 untold_linked (Unanswered k asked ticket) untold = record { made = refl; asked = refl; answered = refl }
 untold_linked (KeptUp k ticket why) untold = record { made = refl; asked = refl; answered = refl }
 untold_linked (Moved asked steps sum up) untold = record { made = refl; asked = refl; answered = refl }
+untold_linked (Settling (Err why) steps) untold = record { made = refl; asked = refl; answered = refl }
 untold_linked outcome untold = absurd untold
 
 nothing_linked : (k : ℕ) (one : Exchange) (asked : Call) (outcome : Outcome) (lacking : List Asked) → one.call ≡ Some asked → CameToNothing k asked outcome lacking

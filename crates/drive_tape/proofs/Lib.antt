@@ -25,6 +25,9 @@ pub mod Begins
 pub mod Asking
 pub mod AtFirst
 pub mod LineActs
+pub mod AtRest
+pub mod Settles
+pub mod Reports
 pub mod OpenedKinds
 pub mod Wholes
 pub mod Kept

@@ -5,7 +5,6 @@ use Rattle.mail_model.specs.Plan.{Plan}
 use Rattle.mail_model.specs.Tape.{ClusterOrder}
 use Rattle.mail_model.specs.Tape.{ClusterOrder as order}
 use Rattle.object_model.specs.Lists.{Among}
-use Rattle.object_model.specs.Sets.{nodes_in}
 use Rattle.object_model.proofs.Lists.{among_front, among_behind}
 use Rattle.session_model.specs.Acts.{Act}
 use Rattle.session_model.specs.Acts.Act.{Does, Makes as MakesAct}
@@ -15,7 +14,6 @@ use Rattle.session_model.specs.Events.ClusterEvent.{WentDown, HasFormed as Forme
 use Rattle.session_model.specs.Lives.{life_after}
 use Rattle.session_model.specs.Logs.{Asked}
 use Rattle.session_model.specs.Run.{Made, Stop}
-use Rattle.session_model.specs.Sums.{BookSum}
 use Rattle.node_store.specs.Disks.{View}
 use Rattle.cluster_world.specs.Lives.{nodes_up}
 use Rattle.cluster_world.specs.Made.{StepMade, IsPost, has_failed}
@@ -25,7 +23,7 @@ use Rattle.cluster_world.specs.Outcomes.Outcome.{Moved}
 use Rattle.cluster_world.specs.Owing.{AllBlind, AreKnown, AreOfSessions}
 use Rattle.cluster_world.specs.Regroups.{AllWentOn, IsOfRound, AreOfRounds, FormsBy, EndsBy, LacksRoom, RegroupsSo, HasFormed, FormsTheUp}
 use Rattle.cluster_world.specs.Sound.{IsWhole}
-use Rattle.cluster_world.specs.Worlds.{state_of, plan_of, life_of}
+use Rattle.cluster_world.specs.Worlds.{state_of, plan_of}
 use Rattle.cluster_world.specs.declared.fault.StepFault.{StepFault}
 use Rattle.cluster_world.specs.declared.regrouping.Regroup.{Regroup}
 use Rattle.cluster_world.specs.declared.regrouping.Regroup.TheVariants.{Formed, Fault}
@@ -38,6 +36,7 @@ use Rattle.cluster_world.proofs.Chained.{plan_stays}
 use Rattle.cluster_world.proofs.Wholes.{world_is_whole}
 use Rattle.drive_tape.specs.Drive.{NamesTheUp}
 use Rattle.drive_tape.specs.Led.{Led, AreLed, AreLedTo, EndsWith}
+use Rattle.drive_tape.specs.Led.TellsMove.{OfSteps, OfSettle, OfMap}
 use Rattle.drive_tape.proofs.NodesUp.{members_up}
 
 -- ---- where an act is among acts, and what the cluster made of it
@@ -206,9 +205,11 @@ module _ {D : Type 0} (on : View D) where
     names_up before node epoch members at = by at.led
       where
         by : Led plan before at.ahead (MakesAct (order.Regroup node) (FormedEpoch epoch members)) at.own → members ≡ nodes_up (life_after before) plan.nodes
-        by (steps, sum, own, (mask, forms, begun, named)) =
+        by (outcome, own, OfSettle result steps settles is tells) = absurd (let never : order.Regroup node ≡ order.Settle = settles in cc)
+        by (outcome, own, OfMap user told maps is tells) = absurd (let never : order.Regroup node ≡ order.Maps user = maps in cc)
+        by (outcome, own, OfSteps steps sum is_moved (mask, forms, begun, named)) =
             let one : Outcome = Moved (order.Regroup node) steps sum (nodes_up (life_after before) plan.nodes) in
-            let are : outcomes ≡ at.ahead ++ one ∷ at.back = at.are ∙ ap (λ (l : List Outcome). at.ahead ++ (l ++ at.back)) own in
+            let are : outcomes ≡ at.ahead ++ one ∷ at.back = at.are ∙ ap (λ (l : List Outcome). at.ahead ++ (l ++ at.back)) (own ∙ ap (λ (o : Outcome). o ∷ []) is_moved) in
             let made = made_at at.ahead at.back one [] left start last (subst (λ (os : List Outcome). Makes on os [] start left last) are makes) in
             let stays : plan_of made.mid ≡ plan = (plan_stays on at.ahead [] made.between start made.mid made.before).0 ∙ begins.plan_is in
             let whole : IsWhole on (plan_of made.mid) made.mid = subst (λ (p : Plan). IsWhole on p made.mid) (sym stays) (whole_at at.ahead (one ∷ at.back) made.between made.mid are made.before) in

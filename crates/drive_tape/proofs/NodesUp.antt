@@ -15,7 +15,7 @@ use Rattle.cluster_model.specs.Cluster.{set_of_members}
 use Rattle.maps_model.specs.Cluster.{member_of}
 use Rattle.cluster_world.specs.Lives.{is_up_life, nodes_up, of_node}
 use Rattle.cluster_world.specs.Regroups.{HasFormed}
-use Rattle.cluster_world.specs.Worlds.{WorldState, state_of, plan_of, lives_of, life_of, life_in, seen_life}
+use Rattle.cluster_world.specs.Worlds.{state_of, plan_of, lives_of, life_of, seen_life}
 use Rattle.cluster_world.specs.declared.life.Life.{Life}
 use Rattle.cluster_world.specs.declared.world.World.{World}
 use Rattle.drive_tape.proofs.Stepping.{is_a_node}

@@ -9,7 +9,7 @@ use Rattle.session_model.specs.Acts.Act.{Opens, Does, Faults, StillWaits, Leaves
 use Rattle.session_model.specs.Turns as turns
 use Rattle.session_model.specs.Turns.{Turn, IsAtNode}
 use Rattle.cluster_world.specs.Outcomes.{Outcome}
-use Rattle.cluster_world.specs.Outcomes.Outcome.{Began, Refused, Fell, Broke, Answers, StillPending, Unanswered, GaveUp, Abandoned, KeptUp, Left, Moved}
+use Rattle.cluster_world.specs.Outcomes.Outcome.{Began, Refused, Fell, Broke, Answers, StillPending, Unanswered, GaveUp, Abandoned, KeptUp, Left, Moved, Settling, Mapped}
 use Rattle.drive_tape.specs.Points.{IsAtOwnNode, AreAtOwnNodes}
 use Rattle.drive_tape.proofs.Talks.{at_place, some_same, set_here, within_get, did_node}
 use Rattle.drive_tape.proofs.Places.{same_or_not, get_apart}
@@ -87,6 +87,8 @@ own_stays old new stay (Abandoned k asked ticket) own = tt
 own_stays old new stay (KeptUp k ticket why) own = tt
 own_stays old new stay (Left k node user) own = stay k node own
 own_stays old new stay (Moved order steps sum up) own = tt
+own_stays old new stay (Settling result steps) own = tt
+own_stays old new stay (Mapped user told) own = tt
 
 -- and of more of them
 pub at_nodes_more : (old new : List Session) → NodesStay old new → (outcomes more : List Outcome) → AreAtOwnNodes old outcomes → AreAtOwnNodes new more → AreAtOwnNodes new (outcomes ++ more)

@@ -18,7 +18,8 @@ use Rattle.cluster_world.specs.Worlds.{state_of, plan_of, life_of, book_of}
 use Rattle.cluster_world.specs.Steps.{StepDid, IsStep, WasToWork}
 use Rattle.cluster_world.specs.Turns.{life_after_step}
 use Rattle.cluster_world.specs.Made.{StepMade, MakesSteps}
-use Rattle.cluster_world.specs.Outcomes.{Outcome, Awaited, MakesOrder, moved_in, fallen_in, left_after, left_after_all}
+use Rattle.cluster_world.specs.Outcomes.{Outcome, Awaited, MakesOrder, Came, moved_in, fallen_in, left_after, left_after_all}
+use Rattle.cluster_world.specs.Lives.{nodes_up}
 use Rattle.cluster_world.proofs.Ordered.{order_makes, order_are}
 use Rattle.cluster_world.specs.declared.world.World.{World}
 use Rattle.cluster_world.specs.declared.step.Step.{Step}
@@ -27,13 +28,17 @@ use Rattle.cluster_world.specs.declared.step.Said.{Said}
 use Rattle.cluster_world.specs.declared.step.Said.TheVariants as said
 use Rattle.cluster_world.specs.declared.fault.StepFault.{StepFault}
 use Rattle.drive_tape.specs.declared.drove.Stop.{Stop}
+use Rattle.drive_tape.specs.declared.drove.Stop.TheVariants.{Bad}
+use Rattle.drive_tape.specs.declared.drove.TapeFault.{TapeFault}
 use Rattle.drive_tape.specs.declared.event.ClusterEvent.{ClusterEvent}
 use Rattle.drive_tape.specs.Denials.{stop_by}
 use Rattle.drive_tape.specs.Happenings.{event_seen, fallen_by}
-use Rattle.drive_tape.specs.Led.{Tells, AreDenied, EndsIn as LastIs}
+use Rattle.drive_tape.specs.Led.{Tells, TellsMove, AreDenied, DeniesMove, EndsIn as LastIs}
+use Rattle.drive_tape.specs.Led.TellsMove.{OfSteps}
+use Rattle.drive_tape.specs.Led.DeniesMove.{DeniedSteps}
 use Rattle.drive_tape.specs.Moved.{OrderIsFit, Happened, MovedSo}
-use Rattle.drive_tape.specs.Worlds.{WentTo}
-use Rattle.drive_tape.proofs.WholeTexts.{are_ended, front_ended}
+use Rattle.drive_tape.specs.Worlds.{WentTo, IsWholeOutcome}
+use Rattle.drive_tape.proofs.WholeTexts.{AreEnded, are_ended, front_ended}
 use Rattle.drive_tape.proofs.Done.{refused_life}
 use Rattle.drive_tape.proofs.Chains.{carried, carries_steps, carries_more, stands_at, stands_steps, has_failed, went_more}
 
@@ -113,16 +118,16 @@ module _ {D : Type 0} (on : View D) where
         }
 
     -- steps in which no node changed, and nothing else was to come of them
-    pub happens_calm : (new : World D) (steps : List StepMade) (event : ClusterEvent) → MakesOrder on order steps old new → AreCalm steps → Tells order steps (sum_of (book_of old)) (event_seen event) → fallen_by (event_seen event) ≡ None
+    pub comes_calm : (new : World D) (outcome : Outcome) (steps : List StepMade) (event : ClusterEvent) → Came on outcome awaited old (left_after_all steps awaited) new → IsWholeOutcome outcome → MakesSteps on steps old new → AreCalm steps
+        → TellsMove (nodes_up (life_of old) (plan_of old).nodes) order (event_seen event) outcome → fallen_by (event_seen event) ≡ None
         → IsEventOf (plan_of old) (life_after been) order (event_seen event) → ((n : ℕ) (was : NodeLife) → life_by_event (event_seen event) n was ≡ was) → ((n : ℕ) → Among n (failed_by_event (event_seen event)) → ⊥)
         → Happened on start outcomes awaited been old order event new
-    happens_calm new steps event makes calm tells falls is lives none = record {
-      steps = steps;
-      at = subst (λ (a : List Awaited). WentTo on start old (outcomes ++ moved_in old order steps ∷ []) a new) left
-          (went_more on start outcomes awaited old fit.at (moved_in old order steps) (left_after_all steps awaited) new (makes, refl, refl, refl) tt);
+    comes_calm new outcome steps event came whole made calm tells falls is lives none = record {
+      outcome = outcome;
+      at = subst (λ (a : List Awaited). WentTo on start old (outcomes ++ outcome ∷ []) a new) left (went_more on start outcomes awaited old fit.at outcome (left_after_all steps awaited) new came whole);
       is = is;
       tells = tells;
-      lives = λ n there. calm_lives steps old new (order_makes on order steps old new makes) calm n ∙ fit.lives n there ∙ sym (life_more been (MakesAct order (event_seen event)) n (Up 1) ∙ lives n (life_after been n));
+      lives = λ n there. calm_lives steps old new made calm n ∙ fit.lives n there ∙ sym (life_more been (MakesAct order (event_seen event)) n (Up 1) ∙ lives n (life_after been n));
       cause = λ n among. absurd (none n among);
     }
       where
@@ -133,16 +138,23 @@ module _ {D : Type 0} (on : View D) where
             append_none [] = refl
             append_none (x ∷ xs) = ap (λ (l : List StepMade). x ∷ l) (append_none xs)
 
+    pub happens_calm : (new : World D) (steps : List StepMade) (event : ClusterEvent) → MakesOrder on order steps old new → AreCalm steps → Tells order steps (sum_of (book_of old)) (event_seen event) → fallen_by (event_seen event) ≡ None
+        → IsEventOf (plan_of old) (life_after been) order (event_seen event) → ((n : ℕ) (was : NodeLife) → life_by_event (event_seen event) n was ≡ was) → ((n : ℕ) → Among n (failed_by_event (event_seen event)) → ⊥)
+        → Happened on start outcomes awaited been old order event new
+    happens_calm new steps event makes calm tells falls is lives none =
+        comes_calm new (moved_in old order steps) steps event (makes, refl, refl, refl) tt (order_makes on order steps old new makes) calm (OfSteps steps (sum_of (book_of old)) refl tells) falls is lives none
+
     -- such steps, and one more of which something came
-    pub happens_after : (new mid : World D) (front : List StepMade) (one : StepMade) (event : ClusterEvent) → MakesSteps on front old mid → AreCalm front → IsStep on one.result one.step mid new
-        → MakesOrder on order (front ++ one ∷ []) old new → Tells order (front ++ one ∷ []) (sum_of (book_of old)) (event_seen event) → fallen_in one.step one.result ≡ fallen_by (event_seen event) → IsEventOf (plan_of old) (life_after been) order (event_seen event)
+    pub comes_after : (new mid : World D) (outcome : Outcome) (front : List StepMade) (one : StepMade) (event : ClusterEvent) → Came on outcome awaited old (left_after_all (front ++ one ∷ []) awaited) new → IsWholeOutcome outcome
+        → MakesSteps on front old mid → AreCalm front → AreEnded front → IsStep on one.result one.step mid new
+        → TellsMove (nodes_up (life_of old) (plan_of old).nodes) order (event_seen event) outcome → fallen_in one.step one.result ≡ fallen_by (event_seen event) → IsEventOf (plan_of old) (life_after been) order (event_seen event)
         → ((n : ℕ) (was : NodeLife) → life_after_step one.result one.step n was ≡ life_by_event (event_seen event) n was)
         → ((n : ℕ) → Among n (failed_by_event (event_seen event)) → one.result ≡ Ok (said.Faulted n)) → Happened on start outcomes awaited been old order event new
-    happens_after new mid front one event before calm last makes tells falls is lives failed = record {
-      steps = front ++ one ∷ [];
-      at = subst (λ (a : List Awaited). WentTo on start old (outcomes ++ moved_in old order (front ++ one ∷ []) ∷ []) a new)
+    comes_after new mid outcome front one event came whole before calm ended last tells falls is lives failed = record {
+      outcome = outcome;
+      at = subst (λ (a : List Awaited). WentTo on start old (outcomes ++ outcome ∷ []) a new)
           (calm_left front (one ∷ []) awaited calm ∙ ap (λ (f : Option ℕ). left_after f awaited) falls)
-          (went_more on start outcomes awaited old fit.at (moved_in old order (front ++ one ∷ [])) (left_after_all (front ++ one ∷ []) awaited) new (makes, refl, refl, refl) tt);
+          (went_more on start outcomes awaited old fit.at outcome (left_after_all (front ++ one ∷ []) awaited) new came whole);
       is = is;
       tells = tells;
       lives = λ n there.
@@ -150,24 +162,37 @@ module _ {D : Type 0} (on : View D) where
           ∙ sym (life_more been (MakesAct order (event_seen event)) n (Up 1));
       cause = λ n among.
           has_failed on start outcomes awaited old fit.at one.step n (state_of new) (state_of mid) (carries_more on (state_of start) (state_of old) (state_of mid) (carried on start outcomes awaited old fit.at) (carries_steps on front old mid before))
-          (λ told. let was = stands_at on start outcomes awaited old fit.at told in stands_steps on front old mid before (front_ended front (one ∷ []) (are_ended order (front ++ one ∷ []) (order_are on order (front ++ one ∷ []) old new makes))) was.0 was.1)
+          (λ told. let was = stands_at on start outcomes awaited old fit.at told in stands_steps on front old mid before ended was.0 was.1)
           (subst (λ (r : Result Said StepFault). StepDid on r one.step (state_of mid) (state_of new)) (failed n among) last.did);
     }
 
+    pub happens_after : (new mid : World D) (front : List StepMade) (one : StepMade) (event : ClusterEvent) → MakesSteps on front old mid → AreCalm front → IsStep on one.result one.step mid new
+        → MakesOrder on order (front ++ one ∷ []) old new → Tells order (front ++ one ∷ []) (sum_of (book_of old)) (event_seen event) → fallen_in one.step one.result ≡ fallen_by (event_seen event) → IsEventOf (plan_of old) (life_after been) order (event_seen event)
+        → ((n : ℕ) (was : NodeLife) → life_after_step one.result one.step n was ≡ life_by_event (event_seen event) n was)
+        → ((n : ℕ) → Among n (failed_by_event (event_seen event)) → one.result ≡ Ok (said.Faulted n)) → Happened on start outcomes awaited been old order event new
+    happens_after new mid front one event before calm last makes tells falls is lives failed =
+        comes_after new mid (moved_in old order (front ++ one ∷ [])) front one event (makes, refl, refl, refl) tt before calm
+        (front_ended front (one ∷ []) (are_ended order (front ++ one ∷ []) (order_are on order (front ++ one ∷ []) old new makes))) last
+        (OfSteps (front ++ one ∷ []) (sum_of (book_of old)) refl tells) falls is lives failed
+
     -- and one that was refused
-    pub denied_after : (new mid : World D) (front : List StepMade) (one : StepMade) (why : StepFault) (stop : Stop) → MakesSteps on front old mid → AreCalm front → IsStep on one.result one.step mid new
-        → MakesOrder on order (front ++ one ∷ []) old new → one.result ≡ Err why → stop ≡ stop_by why → (IsAlwaysDone order → ⊥) → MovedSo on start outcomes awaited been old order (Err stop) new
-    denied_after new mid front one why stop before calm last makes refused stops never = (
+    pub denied_by : (new mid : World D) (outcome : Outcome) (front : List StepMade) (one : StepMade) (why cause : StepFault) (stop : Stop) → Came on outcome awaited old (left_after_all (front ++ one ∷ []) awaited) new → IsWholeOutcome outcome
+        → DeniesMove order why outcome → MakesSteps on front old mid → AreCalm front → IsStep on one.result one.step mid new → one.result ≡ Err cause → ((f : TapeFault) → stop ≡ Bad f → stop_by cause ≡ Bad f) → stop ≡ stop_by why
+        → (IsAlwaysDone order → ⊥) → MovedSo on start outcomes awaited been old order (Err stop) new
+    denied_by new mid outcome front one why cause stop came whole denies before calm last refused same stops never = (
       never,
-      front ++ one ∷ [],
-      record { why = why; denied = denied_ends order why (front ++ one ∷ []) (front, one, refl, refused); stops = stops },
-      (
-        left_after_all (front ++ one ∷ []) awaited,
-        went_more on start outcomes awaited old fit.at (moved_in old order (front ++ one ∷ [])) (left_after_all (front ++ one ∷ []) awaited) new (makes, refl, refl, refl) tt,
-      ),
-      λ f bad n. last.did.lives n ∙ ap (λ (r : Result Said StepFault). life_after_step r one.step n (life_of mid n)) refused ∙ refused_life why one.step n (life_of mid n) f (sym stops ∙ bad)
+      outcome,
+      record { why = why; denied = denies; stops = stops },
+      (left_after_all (front ++ one ∷ []) awaited, went_more on start outcomes awaited old fit.at outcome (left_after_all (front ++ one ∷ []) awaited) new came whole),
+      λ f bad n. last.did.lives n ∙ ap (λ (r : Result Said StepFault). life_after_step r one.step n (life_of mid n)) refused ∙ refused_life cause one.step n (life_of mid n) f (same f bad)
           ∙ calm_lives front old mid before calm n,
     )
+
+    pub denied_after : (new mid : World D) (front : List StepMade) (one : StepMade) (why : StepFault) (stop : Stop) → MakesSteps on front old mid → AreCalm front → IsStep on one.result one.step mid new
+        → MakesOrder on order (front ++ one ∷ []) old new → one.result ≡ Err why → stop ≡ stop_by why → (IsAlwaysDone order → ⊥) → MovedSo on start outcomes awaited been old order (Err stop) new
+    denied_after new mid front one why stop before calm last makes refused stops never =
+        denied_by new mid (moved_in old order (front ++ one ∷ [])) front one why why stop (makes, refl, refl, refl) tt (DeniedSteps (front ++ one ∷ []) _ _ refl (denied_ends order why (front ++ one ∷ []) (front, one, refl, refused)))
+        before calm last refused (λ f bad. sym stops ∙ bad) stops never
 
     -- a line of one step
     pub happens : (new : World D) (s : Step) (r : Result Said StepFault) (event : ClusterEvent) → IsStep on r s old new → MakesOrder on order (record { step = s; result = r } ∷ []) old new → Tells order (record { step = s; result = r } ∷ []) (sum_of (book_of old)) (event_seen event) → fallen_in s r ≡ fallen_by (event_seen event)

@@ -24,8 +24,10 @@ use Rattle.mail_base.specs.Delivers.{mail_in}
 use Rattle.node_core.specs.Beginning.{call_seen as machine_call, IsTextEnded}
 use Rattle.cluster_world.specs.Ended.{IsEnded}
 use Rattle.cluster_world.specs.Made.{StepMade, IsPost, AreOfRegroup}
+use Rattle.cluster_world.specs.Settling.{IsOfSettle, AreOfSettle}
+use Rattle.cluster_world.specs.Settling.IsOfSettle.{Posts, Pushes, Reports}
 use Rattle.cluster_world.specs.Outcomes.{Outcome, IsLeave}
-use Rattle.cluster_world.proofs.Ordered.{IsPushOf, AreStepsOf}
+use Rattle.cluster_world.proofs.Ordered.{IsPushOf, IsReportOf, AreStepsOf}
 use Rattle.cluster_world.specs.declared.step.Step.{Step}
 use Rattle.cluster_world.specs.declared.step.Step.TheVariants as step
 use Rattle.drive_tape.specs.Worlds.{IsWholeCall, IsWholeOutcome, AreWhole}
@@ -73,6 +75,19 @@ regroup_ended node (one ∷ more) all = (
   regroup_ended node more all.1,
 )
 
+reports_ended : (node : ℕ) (steps : List StepMade) → All (IsReportOf node) steps → AreEnded steps
+reports_ended node [] all = tt
+reports_ended node (one ∷ more) all = let first = All-head (IsReportOf node) one more all in (subst IsEnded (sym first.1) tt, reports_ended node more (All-tail (IsReportOf node) one more all))
+
+of_settle_ended : (one : StepMade) → IsOfSettle one → IsEnded one.step
+of_settle_ended one (Posts post) = subst IsEnded (sym post.1) tt
+of_settle_ended one (Pushes from to apart is) = subst IsEnded (sym is) tt
+of_settle_ended one (Reports from to apart is) = subst IsEnded (sym is) tt
+
+pub settle_ended : (steps : List StepMade) → AreOfSettle steps → AreEnded steps
+settle_ended [] all = tt
+settle_ended (one ∷ more) all = (of_settle_ended one all.0, settle_ended more all.1)
+
 pub are_ended : (line : ClusterOrder) (steps : List StepMade) → AreStepsOf line steps → AreEnded steps
 are_ended (order.Crash node) steps are = one_ended _ steps tt are.0 are.1
 are_ended (order.Start node) steps are = one_ended _ steps tt are.0 are.1
@@ -87,6 +102,9 @@ are_ended (order.Group node) steps are = one_ended _ steps tt are.0 are.1
 are_ended (order.Conclude node) steps are = one_ended _ steps tt are.0 are.1
 are_ended (order.Regroup node) steps are = regroup_ended node steps are
 are_ended (order.Tick seconds) steps are = one_ended _ steps tt are.0 are.1
+are_ended (order.Report node) steps are = reports_ended node steps are
+are_ended order.Settle steps are = absurd are
+are_ended (order.Maps user) steps are = absurd are
 are_ended order.Sum steps are = subst AreEnded (sym are) tt
 
 pub front_ended : (front more : List StepMade) → AreEnded (front ++ more) → AreEnded front

@@ -14,9 +14,11 @@ use Rattle.cluster_world.specs.Worlds.{life_of, disk_of_node, disks_of}
 use Rattle.cluster_world.specs.Steps.{IsStep}
 use Rattle.cluster_world.specs.Turns.{life_after_step}
 use Rattle.cluster_world.specs.Made.{StepMade, MakesSteps, IsPost, IsOfRegroup, AreOfRegroup}
+use Rattle.cluster_world.specs.Settling.{IsOfSettle, AreOfSettle}
+use Rattle.cluster_world.specs.Settling.IsOfSettle.{Posts, Pushes, Reports}
 use Rattle.cluster_world.specs.Outcomes.{Outcome, Awaited, Came, Makes}
-use Rattle.cluster_world.proofs.Ordered.{AreStepsOf, AreOne, IsPushOf, order_makes, order_are}
-use Rattle.cluster_world.specs.Outcomes.Outcome.{Began, Refused, Fell, Broke, Answers, StillPending, Unanswered, GaveUp, Abandoned, KeptUp, Left, Moved}
+use Rattle.cluster_world.proofs.Ordered.{AreStepsOf, AreOne, IsPushOf, IsReportOf, order_makes, order_are}
+use Rattle.cluster_world.specs.Outcomes.Outcome.{Began, Refused, Fell, Broke, Answers, StillPending, Unanswered, GaveUp, Abandoned, KeptUp, Left, Moved, Settling, Mapped}
 use Rattle.cluster_world.specs.declared.world.World.{World}
 use Rattle.cluster_world.specs.declared.step.Step.{Step}
 use Rattle.cluster_world.specs.declared.step.Step.TheVariants as step
@@ -48,6 +50,7 @@ done_up (step.Ask ticket) n now was is = is
 done_up (step.GiveUp ticket) n now was is = is
 done_up (step.Post letter keep) n now was is = is
 done_up (step.Drop letter) n now was is = is
+done_up (step.Report from to) n now was is = is
 done_up (step.Push from to) n now was is = is
 done_up (step.Widen at user id to) n now was is = is
 done_up (step.Group node) n now was is = is
@@ -67,6 +70,7 @@ comes_up (step.Push from to) boot n now was is = inl is
 comes_up (step.Widen at user id to) boot n now was is = inl is
 comes_up (step.Group node) boot n now was is = inl is
 comes_up (step.Conclude node) boot n now was is = inl is
+comes_up (step.Report from to) boot n now was is = inl is
 comes_up (step.Tick seconds) boot n now was is = inl is
 comes_up (step.Crash node) boot n now was is = inl is
 comes_up (step.Lose node) boot n now was is = inl is
@@ -120,6 +124,23 @@ pushes_start node (first ∷ steps) one n all among starts = ⊎_elim
     (λ (same : first ≡ one). let is : IsPushOf node one = subst (IsPushOf node) same (All-head (IsPushOf node) first steps all) in let never : step.Push node is.0 ≡ step.Start n = sym is.1 ∙ starts in cc)
     (λ (rest : Among one steps). pushes_start node steps one n (All-tail (IsPushOf node) first steps all) rest starts) among
 
+reports_start : (node : ℕ) (steps : List StepMade) (one : StepMade) (n : ℕ) → All (IsReportOf node) steps → Among one steps → one.step ≡ step.Start n → ⊥
+reports_start node [] one n all among starts = among
+reports_start node (first ∷ steps) one n all among starts = ⊎_elim
+    (λ (same : first ≡ one). let is : IsReportOf node one = subst (IsReportOf node) same (All-head (IsReportOf node) first steps all) in let never : step.Report node is.0 ≡ step.Start n = sym is.1 ∙ starts in cc)
+    (λ (rest : Among one steps). reports_start node steps one n (All-tail (IsReportOf node) first steps all) rest starts) among
+
+of_settle_starts : (one : StepMade) (n : ℕ) → IsOfSettle one → one.step ≡ step.Start n → ⊥
+of_settle_starts one n (Posts post) starts = let never : step.Post post.0 false ≡ step.Start n = sym post.1 ∙ starts in cc
+of_settle_starts one n (Pushes from to apart is) starts = let never : step.Push from to ≡ step.Start n = sym is ∙ starts in cc
+of_settle_starts one n (Reports from to apart is) starts = let never : step.Report from to ≡ step.Start n = sym is ∙ starts in cc
+
+settle_starts : (steps : List StepMade) (one : StepMade) (n : ℕ) → AreOfSettle steps → Among one steps → one.step ≡ step.Start n → ⊥
+settle_starts [] one n all among starts = among
+settle_starts (first ∷ steps) one n all among starts = ⊎_elim
+    (λ (same : first ≡ one). of_settle_starts one n (subst IsOfSettle same all.0) starts)
+    (λ (rest : Among one steps). settle_starts steps one n all.1 rest starts) among
+
 of_regroup_starts : (node : ℕ) (one : StepMade) (n : ℕ) → IsOfRegroup node one → one.step ≡ step.Start n → ⊥
 of_regroup_starts node one n of starts = ⊎_elim
     (λ (opens : one.step ≡ step.Group node). let never : step.Group node ≡ step.Start n = sym opens ∙ starts in cc)
@@ -150,6 +171,9 @@ order_starts (order.Group node) steps sum up one n are among starts = absurd (le
 order_starts (order.Conclude node) steps sum up one n are among starts = absurd (let never : step.Conclude node ≡ step.Start n = one_starts (step.Conclude node) steps one n are among starts in cc)
 order_starts (order.Regroup node) steps sum up one n are among starts = absurd (regroup_starts node steps one n are among starts)
 order_starts (order.Tick seconds) steps sum up one n are among starts = absurd (let never : step.Tick seconds ≡ step.Start n = one_starts (step.Tick seconds) steps one n are among starts in cc)
+order_starts (order.Report node) steps sum up one n are among starts = absurd (reports_start node steps one n are among starts)
+order_starts order.Settle steps sum up one n are among starts = absurd are
+order_starts (order.Maps user) steps sum up one n are among starts = absurd are
 order_starts order.Sum steps sum up one n are among starts = absurd (subst (Among one) are among)
 
 -- a node that is up now was so, in the same boot, and its disk has not failed since
@@ -193,6 +217,9 @@ module _ {D : Type 0} (on : View D) (n now : ℕ) where
   whole_came (KeptUp k ticket why) awaited left old mid new came other later = whole_step _ _ old mid new came.2 (λ e. cc) later
   whole_came (Left k node user) awaited left old mid new came other later = whole_step _ _ old mid new came.3 (λ e. cc) later
   whole_came (Moved asked steps sum up) awaited left old mid new came other later = whole_steps steps old mid new (order_makes on asked steps old mid came.0) (λ one among starts. other (order_starts asked steps sum up one n (order_are on asked steps old mid came.0) among starts)) later
+  whole_came (Settling result steps) awaited left old mid new (makes, are, left_is) other later =
+      whole_steps steps old mid new (subst (λ (l : List StepMade). MakesSteps on l old mid) are makes.made) (λ one among starts. settle_starts steps one n (subst AreOfSettle are makes.of) among starts) later
+  whole_came (Mapped user told) awaited left old mid new came other later = subst (λ (w : World D). IsWhole on n now w new) came.2 later
 
   whole_makes : (outcomes : List Outcome) (awaited left : List Awaited) (old new : World D) → Makes on outcomes awaited old left new → ((outcome : Outcome) → Among outcome outcomes → StartsAgain n outcome → ⊥)
       → life_of new n ≡ Up now → IsWhole on n now old new

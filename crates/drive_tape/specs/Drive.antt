@@ -1,5 +1,5 @@
 -- What driving a cluster by a tape did, over the octets that were read and those that were written.
-use Rattle.std.specs.Prelude.{◌≡◌, ◌⊎◌, ◌<◌, ◌≤◌, ◌+◌, ◌^◌, ℕ, List, [], ◌∷◌, ◌++◌, length, map, flat_map, All, ⊤, Option, Some, None, Err}
+use Rattle.std.specs.Prelude.{◌≡◌, ◌⊎◌, ◌<◌, ◌≤◌, ◌+◌, ◌^◌, ℕ, List, [], ◌∷◌, ◌++◌, length, map, flat_map, All, ⊤, Option, Some, None}
 use Rattle.std.specs.Io.KnownBytes.{Consumes, Appends, IsAtEnd}
 use Rattle.mail_model.specs.Identity.{EpochId}
 use Rattle.mail_model.specs.Lines.{HasNoLf, ended}
@@ -10,7 +10,7 @@ use Rattle.mail_model.specs.Transcript.{Entry, entry_line, written_of}
 use Rattle.session_model.specs.Sessions.{Session}
 use Rattle.session_model.specs.Acts.{Act}
 use Rattle.session_model.specs.Acts.Act.{StillWaits, Makes as MakesAct}
-use Rattle.session_model.specs.Events.ClusterEvent.{HasFormed}
+use Rattle.session_model.specs.Events.ClusterEvent.{HasFormed, HasSettled}
 use Rattle.session_model.specs.Logs.{Asked}
 use Rattle.session_model.specs.Lives.{failed_in, life_after}
 use Rattle.session_model.specs.Run.{Stop, IsDriven, IsCutShort, refusal}
@@ -18,9 +18,8 @@ use Rattle.session_model.specs.Kept.{IsEnding}
 use Rattle.session_model.specs.Run.Stop.{BehindLine, Denied, SinkFailed, OutOfMemory}
 use Rattle.node_store.specs.Disks.{View}
 use Rattle.cluster_world.specs.Lives.{nodes_up}
-use Rattle.cluster_world.specs.Made.{StepMade}
 use Rattle.cluster_world.specs.Outcomes.{Outcome, Awaited, Makes, made_of, asked_by_outcome}
-use Rattle.cluster_world.specs.Outcomes.Outcome.{Moved, KeptUp}
+use Rattle.cluster_world.specs.Outcomes.Outcome.{Moved, Settling, KeptUp}
 use Rattle.session_model.specs.Events.NodeLife.{Up}
 use Rattle.mail_model.specs.Tape.{ClusterOrder as order}
 use Rattle.cluster_model.specs.Cluster.{Ticket}
@@ -30,6 +29,8 @@ use Rattle.cluster_model.specs.Progress.Ask.{Pending}
 use Rattle.object_model.specs.Letters.{Number}
 use Rattle.cluster_world.specs.Worlds.{state_of, plan_of, disk_of_node, life_of}
 use Rattle.cluster_world.specs.Telling.{standing_in}
+use Rattle.cluster_world.specs.Rests.{HasRightMaps}
+use Rattle.cluster_world.specs.Settling.{IsAtRest}
 use Rattle.cluster_world.specs.Sound.{IsWhole}
 use Rattle.cluster_world.specs.Wholes.{HasOneMap}
 use Rattle.cluster_world.specs.declared.fault.StepFault.{StepFault}
@@ -89,6 +90,7 @@ NamesLine (drove.NoMemory n) line = n ≡ line
 -- the steps of an outcome were denied, for this fault of the tape
 abbrev pub IsDenied : TapeFault → Outcome → Type 0
 IsDenied fault (Moved order steps sum up) = (cause : StepFault) × AreDenied order cause steps × (stop_by cause ≡ why.Bad fault)
+IsDenied fault (Settling (Err cause) steps) = stop_by cause ≡ why.Bad fault
 IsDenied fault (KeptUp k ticket cause) = stop_by cause ≡ why.Bad fault
 IsDenied fault outcome = ⊥
 
@@ -129,6 +131,19 @@ HasLetters world = (number : Number) (ticket : Ticket) (got wanted : ℕ) → st
 abbrev pub NamesTheUp : Plan → List Act → Type 0
 NamesTheUp plan acts = (before behind : List Act) (node : ℕ) (epoch : EpochId) (members : List ℕ) → acts ≡ before ++ MakesAct (order.Regroup node) (HasFormed epoch members) ∷ behind
     → members ≡ nodes_up (life_after before) plan.nodes
+
+-- The act asks for something of the cluster that no step of it answers: the entries of the book, or a map.
+abbrev pub IsIdleAct : Act → Type 0
+IsIdleAct (MakesAct order.Sum event) = ⊤
+IsIdleAct (MakesAct (order.Maps user) event) = ⊤
+IsIdleAct act = ⊥
+
+-- A settle was answered as settled, and behind it nothing was done.
+pub record EndsSettled (acts : List Act) : Type 0 where
+  pub before : List Act
+  pub behind : List Act
+  pub split : acts ≡ before ++ MakesAct order.Settle HasSettled ∷ behind
+  pub idle : All IsIdleAct behind
 
 -- The whole: the octets that were read begin with the lines that were handled, and the one in whose midst the work stopped, if there is one; the run of these
 -- lines is this; what was written is its entries, the last line of them perhaps in part; the world made its steps and no others; the answer says why it
@@ -172,6 +187,8 @@ pub record Drives {D : Type 0} (on : View D) (start : World D) (left0 left1 held
   pub one_map : AreToldOrBlind on start (handled ++ midst) → HasOneMap (state_of last)
   -- the members that a regroup names are the nodes that were up
   pub named : AreToldOrBlind on start (handled ++ midst) → NamesTheUp (plan_of start) (flat_map (λ a. a) (acts ++ behind))
+  -- where the last that was done is a settle that was answered so, the world that came back is at rest, and its maps are right
+  pub maps_right : stop ≡ BehindLine → AreToldOrBlind on start (handled ++ midst) → EndsSettled (flat_map (λ a. a) (acts ++ behind)) → IsAtRest (state_of last) × HasRightMaps on (state_of last)
   pub why : Stops (stop_of answer) stop (plan_of start) (flat_map (λ a. a) acts) sessions midst left1 others room outcomes
   pub number : NamesLine answer (from + length handled + 1)
   pub whole : (IsCutShort stop → ⊥) → cut ≡ []

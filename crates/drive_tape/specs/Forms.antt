@@ -1,10 +1,13 @@
--- What is said of a group that was to be opened or concluded, and of a regroup.
+-- What is said of a group that was to be opened or concluded, of a regroup, and of a settle.
 use Rattle.std.specs.Prelude.{◌≡◌, ⊤, Result, Ok, Err}
 use Rattle.cluster_world.specs.declared.step.Said.{Said}
 use Rattle.cluster_world.specs.declared.step.Said.TheVariants as said
 use Rattle.cluster_world.specs.declared.fault.StepFault.{StepFault}
 use Rattle.cluster_world.specs.declared.regrouping.Regroup.{Regroup}
 use Rattle.cluster_world.specs.declared.regrouping.Regroup.TheVariants.{Formed, Fault}
+use Rattle.cluster_world.specs.declared.settling.Settle.{Settle}
+use Rattle.cluster_world.specs.declared.settling.Settle.TheVariants as settle
+use Rattle.cluster_world.specs.declared.settling.Settle.TheVariants.{Settled, NotAllUp}
 use Rattle.drive_tape.specs.declared.drove.Stop.{Stop}
 use Rattle.drive_tape.specs.declared.event.ClusterEvent.{ClusterEvent}
 use Rattle.drive_tape.specs.declared.event.ClusterEvent.TheVariants as event
@@ -30,6 +33,17 @@ FormsTo (Ok what) (Ok happened) = ⊥
 FormsTo (Ok what) (Err stop) = ⊤
 FormsTo (Err why) (Ok happened) = ⊥
 FormsTo (Err why) (Err stop) = stop ≡ stop_by why
+
+-- of a settle
+abbrev pub SettlesTo : Result Settle StepFault → Result ClusterEvent Stop → Type 0
+SettlesTo (Ok Settled) (Ok happened) = happened ≡ event.HasSettled
+SettlesTo (Ok Settled) (Err stop) = ⊥
+SettlesTo (Ok (NotAllUp member)) (Ok happened) = happened ≡ event.WasAbsent member
+SettlesTo (Ok (NotAllUp member)) (Err stop) = ⊥
+SettlesTo (Ok (settle.Fault failed)) (Ok happened) = happened ≡ event.HasFaulted failed
+SettlesTo (Ok (settle.Fault failed)) (Err stop) = ⊥
+SettlesTo (Err why) (Ok happened) = ⊥
+SettlesTo (Err why) (Err stop) = stop ≡ stop_by why
 
 -- and of a regroup
 abbrev pub RegroupsTo : Result Regroup StepFault → Result ClusterEvent Stop → Type 0

@@ -7,10 +7,11 @@ use Rattle.mail_model.specs.Transcript.{Entry}
 use Rattle.mail_model.specs.Transcript.Entry.{Event}
 use Rattle.session_model.specs.Events as plain
 use Rattle.node_core.specs.declared.outbox.Why.{Why}
+use Rattle.cluster_world.specs.Outcomes.{map_seen}
 use Rattle.cluster_world.specs.Sums.{sum_seen}
 use Rattle.node_core.specs.declared.outbox.Why.TheVariants as why
 use Rattle.drive_tape.specs.declared.event.ClusterEvent.{ClusterEvent}
-use Rattle.drive_tape.specs.declared.event.ClusterEvent.TheVariants.{WentDown, CameUp, WasLost, WasHeard, WasThrown, WasDropped, HasFlowed, HasSent, HasWidened, HasGrouped, HasFormed, HasTicked, HasSummed, HasFaulted}
+use Rattle.drive_tape.specs.declared.event.ClusterEvent.TheVariants.{WentDown, CameUp, WasLost, WasHeard, WasThrown, WasDropped, HasFlowed, HasSent, HasWidened, HasGrouped, HasFormed, HasSettled, WasAbsent, HasMapped, HasTicked, HasSummed, HasFaulted}
 use Rattle.drive_tape.specs.declared.entry.WriteStop.{WriteStop}
 use Rattle.drive_tape.specs.declared.entry.WriteStop.TheVariants as write
 use Rattle.drive_tape.specs.Entries.{WritesEntries}
@@ -35,6 +36,9 @@ event_seen (HasSent count) = plain.ClusterEvent.HasSent count
 event_seen (HasWidened did) = plain.ClusterEvent.HasWidened did
 event_seen (HasGrouped epoch) = plain.ClusterEvent.HasGrouped epoch
 event_seen (HasFormed epoch members) = plain.ClusterEvent.HasFormed epoch (nodes_in members 16)
+event_seen HasSettled = plain.ClusterEvent.HasSettled
+event_seen (WasAbsent member) = plain.ClusterEvent.WasAbsent member
+event_seen (HasMapped user told) = plain.ClusterEvent.HasMapped user (map_seen told)
 event_seen HasTicked = plain.ClusterEvent.HasTicked
 event_seen (HasSummed sum) = plain.ClusterEvent.HasSummed (sum_seen sum)
 event_seen (HasFaulted node) = plain.ClusterEvent.HasFaulted node

@@ -4,7 +4,7 @@ use Rattle.mail_model.specs.Plan.{Plan}
 use Rattle.mail_model.specs.Record.{Record}
 use Rattle.mail_model.specs.Tape.{Order, tape_order}
 use Rattle.mail_model.specs.Tape.Order.{Moves}
-use Rattle.mail_model.specs.Tape.ClusterOrder.{Start, Push}
+use Rattle.mail_model.specs.Tape.ClusterOrder.{Start, Push, Settle}
 use Rattle.mail_model.specs.Transcript.{Entry}
 use Rattle.session_model.specs.Acts.{Act}
 use Rattle.session_model.specs.Logs.{Asked}
@@ -15,10 +15,11 @@ use Rattle.node_store.specs.Disks.{View}
 use Rattle.cluster_world.specs.Worlds.{plan_of, disks_of, book_of, disks_tell}
 use Rattle.cluster_world.specs.declared.world.World.{World}
 
--- The order needs nothing that a disk tells: it starts no node, and has none push to another.
+-- The order needs nothing that a disk tells: it starts no node, and has none push to another. A settle pushes wherever it has several members.
 abbrev pub IsBlindOrder : ℕ → Option Order → Type 0
 IsBlindOrder nodes (Some (Moves (Start node))) = ⊥
 IsBlindOrder nodes (Some (Moves (Push node))) = nodes ≡ 1
+IsBlindOrder nodes (Some (Moves Settle)) = nodes ≡ 1
 IsBlindOrder nodes order = ⊤
 
 abbrev pub AreBlindLines : ℕ → List (List ℕ) → Type 0

@@ -8,7 +8,7 @@ use Rattle.mail_model.specs.Tape.{ClusterOrder}
 use Rattle.mail_model.specs.Tape.{ClusterOrder as order}
 use Rattle.session_model.specs.Calls.{Call}
 use Rattle.session_model.specs.Events.{ClusterEvent}
-use Rattle.session_model.specs.Events.ClusterEvent.{WentDown, CameUp, WasLost, WasHeard, WasThrown, WasDropped, HasFlowed, HasSent, HasWidened, HasGrouped, HasFormed, HasTicked, HasSummed, HasFaulted}
+use Rattle.session_model.specs.Events.ClusterEvent.{WentDown, CameUp, WasLost, WasHeard, WasThrown, WasDropped, HasFlowed, HasSent, HasWidened, HasGrouped, HasFormed, HasSettled, WasAbsent, HasMapped, HasTicked, HasSummed, HasFaulted}
 use Rattle.session_model.specs.Acts.{Act}
 use Rattle.session_model.specs.Acts.Act.{Opens, Does, Faults, StillWaits, Leaves, Makes, Abandons}
 use Rattle.session_model.specs.Acts.Deed.{IsFed, Hears, IsAnswered, IsGivenUp, Falls, Closes}
@@ -18,14 +18,16 @@ use Rattle.session_model.specs.Run.{Made, Stop}
 use Rattle.session_model.specs.Run.Stop.{OutOfMemory}
 use Rattle.cluster_world.specs.Lives.{nodes_up}
 use Rattle.cluster_world.specs.Made.{StepMade, has_failed}
-use Rattle.cluster_world.specs.Outcomes.{Outcome, made_of}
-use Rattle.cluster_world.specs.Outcomes.Outcome.{Began, Refused, Fell, Broke, Answers, StillPending, Unanswered, GaveUp, Abandoned, KeptUp, Left, Moved}
+use Rattle.cluster_world.specs.Outcomes.{Outcome, made_of, map_seen}
+use Rattle.cluster_world.specs.Outcomes.Outcome.{Began, Refused, Fell, Broke, Answers, StillPending, Unanswered, GaveUp, Abandoned, KeptUp, Left, Moved, Settling, Mapped}
 use Rattle.cluster_world.specs.declared.step.Step.{Step}
 use Rattle.cluster_world.specs.declared.step.Step.TheVariants as step
 use Rattle.cluster_world.specs.declared.step.Said.{Said}
 use Rattle.cluster_world.specs.declared.step.Said.TheVariants as said
 use Rattle.cluster_world.specs.declared.fault.StepFault.{StepFault}
 use Rattle.cluster_world.specs.declared.fault.StepFault.TheVariants as fault
+use Rattle.cluster_world.specs.declared.settling.Settle.{Settle}
+use Rattle.cluster_world.specs.declared.settling.Settle.TheVariants as settle
 use Rattle.cluster_world.specs.Regroups.{FormsBy, BeginsByGroup}
 use Rattle.drive_tape.specs.Happenings.{why_seen}
 
@@ -68,9 +70,23 @@ abbrev pub Tells : ClusterOrder → List StepMade → BookSum → ClusterEvent �
 Tells asked steps sum (HasFaulted node) = EndsIn (Ok (said.Faulted node)) steps
 Tells order.Flow steps sum HasFlowed = WentWell steps
 Tells (order.Push node) steps sum (HasSent count) = WentWell steps × (count ≡ min (sent_in steps) (2 ^ 64 - 1))
+Tells (order.Report node) steps sum (HasSent count) = WentWell steps × (count ≡ min (sent_in steps) (2 ^ 64 - 1))
 Tells order.Sum steps sum (HasSummed told) = (steps ≡ []) × (told ≡ sum)
 Tells (order.Regroup node) steps sum (HasFormed epoch members) = (mask : ℕ) × FormsBy node epoch mask steps × BeginsByGroup node steps × (members ≡ nodes_in mask 16)
 Tells asked steps sum event = (one : StepMade) × (steps ≡ one ∷ []) × (told_of one.step one.result ≡ Some event)
+
+-- what is told of a settle
+abbrev pub TellsSettle : Result Settle StepFault → ClusterEvent → Type 0
+TellsSettle (Ok settle.Settled) event = event ≡ HasSettled
+TellsSettle (Ok (settle.NotAllUp member)) event = event ≡ WasAbsent member
+TellsSettle (Ok (settle.Fault failed)) event = event ≡ HasFaulted failed
+TellsSettle (Err why) event = ⊥
+
+-- Which event an outcome of an order tells, where these nodes were up: that of its steps; of a settle, what came of it; of a map, who is named.
+pub data TellsMove (up : List ℕ) (asked : ClusterOrder) (event : ClusterEvent) (outcome : Outcome) : Type 0 where
+  OfSteps : (steps : List StepMade) (sum : BookSum) → outcome ≡ Moved asked steps sum up → Tells asked steps sum event → TellsMove up asked event outcome
+  OfSettle : (result : Result Settle StepFault) (steps : List StepMade) → asked ≡ order.Settle → outcome ≡ Settling result steps → TellsSettle result event → TellsMove up asked event outcome
+  OfMap : (user : List ℕ) (told : Option (ℕ × ℕ)) → asked ≡ order.Maps user → outcome ≡ Mapped user told → event ≡ HasMapped user (map_seen told) → TellsMove up asked event outcome
 
 -- the call that a session asks, if any, began; or its node went down in it, since its disk failed
 abbrev pub Begins : ℕ → Option Call → List Outcome → Type 0
@@ -95,7 +111,7 @@ Led plan been before (Does k Closes) outcomes = outcomes ≡ []
 Led plan been before (Faults node) outcomes = (outcomes ≡ []) × EndsFell node before
 Led plan been before (StillWaits k) outcomes = (ticket : Number) × (outcomes ≡ StillPending k ticket ∷ [])
 Led plan been before (Leaves k user) outcomes = (node : ℕ) × (outcomes ≡ Left k node user ∷ [])
-Led plan been before (Makes asked event) outcomes = (steps : List StepMade) × (sum : BookSum) × (outcomes ≡ Moved asked steps sum (nodes_up (life_after been) plan.nodes) ∷ []) × Tells asked steps sum event
+Led plan been before (Makes asked event) outcomes = (outcome : Outcome) × (outcomes ≡ outcome ∷ []) × TellsMove (nodes_up (life_after been) plan.nodes) asked event outcome
 Led plan been before (Abandons k) outcomes = (asked : Call) × (ticket : Number) × (outcomes ≡ Abandoned k asked ticket ∷ [])
 
 -- so it is of acts, one after another
@@ -109,11 +125,17 @@ abbrev pub AreDenied : ClusterOrder → StepFault → List StepMade → Type 0
 AreDenied (order.Regroup node) why steps = EndsIn (Err why) steps ⊎ ((steps ≡ []) × (why ≡ fault.NoRoom))
 AreDenied asked why steps = EndsIn (Err why) steps
 
+-- An order was denied: its steps were, or a settle was refused so.
+pub data DeniesMove (asked : ClusterOrder) (why : StepFault) (outcome : Outcome) : Type 0 where
+  DeniedSteps : (steps : List StepMade) (sum : BookSum) (up : List ℕ) → outcome ≡ Moved asked steps sum up → AreDenied asked why steps → DeniesMove asked why outcome
+  DeniedSettle : (steps : List StepMade) → asked ≡ order.Settle → outcome ≡ Settling (Err why) steps → DeniesMove asked why outcome
+
 -- A step of which no act tells: a ticket was asked for in vain, a call could not be given up, or the steps of a run line were denied.
 abbrev pub IsUntold : Outcome → Type 0
 IsUntold (Unanswered k asked ticket) = ⊤
 IsUntold (KeptUp k ticket why) = ⊤
 IsUntold (Moved asked steps sum up) = (why : StepFault) × AreDenied asked why steps
+IsUntold (Settling (Err why) steps) = ⊤
 IsUntold outcome = ⊥
 
 -- nothing came of the call but this: it was refused, and is lacking among those that have begun; or its node went down in it as memory ran out

@@ -10,7 +10,7 @@ use Rattle.cluster_world.specs.declared.world.World.{World}
 use Rattle.drive_tape.specs.declared.drove.TapeFault.{TapeFault}
 use Rattle.drive_tape.specs.declared.drove.TapeFault.TheVariants.{NoSuchNode}
 use Rattle.drive_tape.specs.declared.orders.Admitted.{Admitted}
-use Rattle.drive_tape.specs.declared.orders.Admitted.TheVariants.{Crash, Start, Lose, Post, Drop, Flow, Push, Widen, Group, Conclude, Regroup, Tick, Sum}
+use Rattle.drive_tape.specs.declared.orders.Admitted.TheVariants.{Crash, Start, Lose, Post, Drop, Flow, Push, Widen, Group, Conclude, Regroup, Report, Settle, Maps, Tick, Sum}
 use Rattle.drive_tape.specs.Faults.{tape_fault_seen}
 
 -- the plan has the node, or it has not
@@ -44,6 +44,9 @@ admitted_seen (Widen at user id to) = tape.ClusterOrder.Widen at user id to
 admitted_seen (Group node) = tape.ClusterOrder.Group node
 admitted_seen (Conclude node) = tape.ClusterOrder.Conclude node
 admitted_seen (Regroup node) = tape.ClusterOrder.Regroup node
+admitted_seen (Report node) = tape.ClusterOrder.Report node
+admitted_seen Settle = tape.ClusterOrder.Settle
+admitted_seen (Maps user) = tape.ClusterOrder.Maps user
 admitted_seen (Tick seconds) = tape.ClusterOrder.Tick seconds
 admitted_seen Sum = tape.ClusterOrder.Sum
 

@@ -42,9 +42,13 @@ fn push_node(
     Ok(())
 }
 
-// The numbers of the nodes in rising order, each behind a space.
+/// The numbers of the nodes in rising order, each behind a space.
 #[tactic(auto, using(crate::proofs::EpochTexts::words_on))]
-fn push_nodes(alloc: Global, text: &mut Vec<u8>, nodes: NodeSet) -> Result<(), AllocError>
+pub(crate) fn push_nodes(
+    alloc: Global,
+    text: &mut Vec<u8>,
+    nodes: NodeSet,
+) -> Result<(), AllocError>
     ensures { OnOk result (text.new.items ≡ text.old.items ++ node_words (nodes_in nodes 16)) }
 {
     for done in 0..16 {

@@ -9,10 +9,11 @@ ghost use Rattle.drive_tape.specs.Happenings.{why_seen, event_seen, entries_of_e
 
 use crate::entry::Entry;
 use crate::epoch_text::{formed, grouped, push_number};
+use crate::map_text::mapped;
 use crate::{WriteStop, write_entries};
 use cluster_world::BookSum;
 use io_edge::Sink;
-use mail_base::{EpochId, NodeNo, NodeSet, Octets};
+use mail_base::{EpochId, Name, NodeNo, NodeSet, Octets};
 use node_core::Why;
 use std::alloc::{AllocError, Global};
 
@@ -22,13 +23,19 @@ pub(crate) enum ClusterEvent {
     /// A node went down.
     WentDown(NodeNo),
     /// A node came up, in this boot.
-    CameUp { node: NodeNo, boot: u32 },
+    CameUp {
+        node: NodeNo,
+        boot: u32,
+    },
     /// A node is lost for good.
     WasLost(NodeNo),
     /// A letter was heard.
     WasHeard(u64),
     /// A letter was thrown.
-    WasThrown { letter: u64, why: Why },
+    WasThrown {
+        letter: u64,
+        why: Why,
+    },
     /// A letter was dropped.
     WasDropped(u64),
     /// All letters were posted.
@@ -40,7 +47,19 @@ pub(crate) enum ClusterEvent {
     /// A group was opened for this epoch.
     HasGrouped(EpochId),
     /// The epoch was formed, with these members.
-    HasFormed { epoch: EpochId, members: NodeSet },
+    HasFormed {
+        epoch: EpochId,
+        members: NodeSet,
+    },
+    /// The latest epoch has settled.
+    HasSettled,
+    /// It could not, since this member of it is not live.
+    WasAbsent(NodeNo),
+    /// A manager names these nodes as those with mail of the user; or none does.
+    HasMapped {
+        user: Name,
+        told: Option<(NodeNo, NodeSet)>,
+    },
     /// The clock was set.
     HasTicked,
     /// The entries of the book were counted.
@@ -152,6 +171,13 @@ fn faulted(alloc: Global, node: NodeNo) -> Result<Octets, AllocError>
     numbered(alloc, b"fault ", u64::from(node.number()))
 }
 
+// `not-all-up N`
+fn absent(alloc: Global, member: NodeNo) -> Result<Octets, AllocError>
+    ensures { IfOk result (λ text. text ≡ codes "not-all-up " ++ decimal member) }
+{
+    numbered(alloc, b"not-all-up ", u64::from(member.number()))
+}
+
 impl ClusterEvent {
     // The text of its line; none where it has no line.
     fn text(&self, alloc: Global) -> Result<Option<Octets>, AllocError>
@@ -171,6 +197,9 @@ impl ClusterEvent {
             ClusterEvent::HasFormed { epoch, members } => {
                 Ok(Some(formed(alloc, *epoch, *members)?))
             }
+            ClusterEvent::HasSettled => Ok(Some(word(alloc, b"settled")?)),
+            ClusterEvent::WasAbsent(member) => Ok(Some(absent(alloc, *member)?)),
+            ClusterEvent::HasMapped { user, told } => Ok(Some(mapped(alloc, user, told)?)),
             ClusterEvent::HasTicked => Ok(None),
             ClusterEvent::HasSummed(sum) => Ok(Some(summed(alloc, sum)?)),
             ClusterEvent::HasFaulted(node) => Ok(Some(faulted(alloc, *node)?)),
@@ -194,6 +223,9 @@ impl ClusterEvent {
             ClusterEvent::HasWidened(_) => None,
             ClusterEvent::HasGrouped(_) => None,
             ClusterEvent::HasFormed { .. } => None,
+            ClusterEvent::HasSettled => None,
+            ClusterEvent::WasAbsent(_) => None,
+            ClusterEvent::HasMapped { .. } => None,
             ClusterEvent::HasTicked => None,
             ClusterEvent::HasSummed(_) => None,
         }

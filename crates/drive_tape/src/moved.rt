@@ -15,6 +15,7 @@ use crate::denial::{done, stop_by};
 use crate::event::ClusterEvent;
 use crate::grouping::{conclude, group, regroup};
 use crate::orders::Admitted;
+use crate::resting::{maps, report, settle};
 use cluster_world::{Said, Step, StepFault, World};
 use io_edge::Disk;
 use mail_base::{MsgId, Name, NodeNo};
@@ -279,6 +280,9 @@ pub(crate) fn make<D: Disk>(
         Admitted::Group(node) => group(world, alloc, node),
         Admitted::Conclude(node) => conclude(world, alloc, node),
         Admitted::Regroup(node) => regroup(world, alloc, node),
+        Admitted::Report(node) => report(world, alloc, node),
+        Admitted::Settle => settle(world, alloc),
+        Admitted::Maps(user) => Ok(maps(world, user)),
         Admitted::Tick(seconds) => tick(world, alloc, seconds),
         Admitted::Sum => Ok(sum(world)),
     }

@@ -46,6 +46,12 @@ pub(crate) enum Admitted {
     Conclude(NodeNo),
     /// A node forms the next epoch.
     Regroup(NodeNo),
+    /// A node reports its rows to each other member of its epoch.
+    Report(NodeNo),
+    /// The cluster settles.
+    Settle,
+    /// It is asked which nodes have mail of the user.
+    Maps(Name),
     /// The clock is set.
     Tick(u64),
     /// The entries of the book are counted.
@@ -152,6 +158,16 @@ fn widen<D: Disk>(
     Ok(Admitted::Widen { at, user, id, to })
 }
 
+// It is asked which nodes have mail of this user.
+fn map<D: Disk>(world: &World<D>, user: Name) -> Result<Admitted, TapeFault>
+    ensures { Admits world.now (AnOrder.Maps user) result }
+{
+    if !world.plan().users.has(&user) {
+        return Err(TapeFault::BadLine);
+    }
+    Ok(Admitted::Maps(user))
+}
+
 /// The order, where its nodes are there and are as they have to be.
 ///
 /// # Errors
@@ -177,6 +193,9 @@ pub(crate) fn admit<D: Disk>(world: &World<D>, order: ClusterOrder) -> Result<Ad
         ClusterOrder::Group { node } => Ok(Admitted::Group(worker(world, node)?)),
         ClusterOrder::Conclude { node } => Ok(Admitted::Conclude(worker(world, node)?)),
         ClusterOrder::Regroup { node } => Ok(Admitted::Regroup(worker(world, node)?)),
+        ClusterOrder::Report { node } => Ok(Admitted::Report(node_of(world.plan(), node)?)),
+        ClusterOrder::Settle => Ok(Admitted::Settle),
+        ClusterOrder::Maps { user } => map(world, user),
         ClusterOrder::Tick { seconds } => Ok(Admitted::Tick(seconds)),
         ClusterOrder::Sum => Ok(Admitted::Sum),
     }

@@ -129,7 +129,7 @@ among_taken (suc most) [] user h = absurd h
 among_taken (suc most) (one ∷ users) user (inl same) = inl same
 among_taken (suc most) (one ∷ users) user (inr later) = inr (among_taken most users user later)
 
-among_filtered : (p : List ℕ → Bool) (users : List (List ℕ)) (user : List ℕ) → Among user (filter p users) → Among user users × (p user ≡ true)
+pub among_filtered : (p : List ℕ → Bool) (users : List (List ℕ)) (user : List ℕ) → Among user (filter p users) → Among user users × (p user ≡ true)
 among_filtered p [] user h = absurd h
 among_filtered p (one ∷ users) user h = by (p one) refl (λ later. among_filtered p users user later) h
   where
@@ -138,10 +138,10 @@ among_filtered p (one ∷ users) user h = by (p one) refl (λ later. among_filte
     by true e rest (inr later) = let found = rest later in (inr found.0, found.1)
     by false e rest h = let found = rest h in (inr found.0, found.1)
 
-same_is : (user : List ℕ) → eq_by_cmp (slice_cmp nat_cmp) user user ≡ true
+pub same_is : (user : List ℕ) → eq_by_cmp (slice_cmp nat_cmp) user user ≡ true
 same_is user = ⊎_elim (λ same. sym (texts_ties user user) ∙ same.0) (λ apart. absurd (apart.1 refl)) (one_or_other user user)
 
-among_has : (users : List (List ℕ)) (user : List ℕ) → Among user users → has_user users user ≡ true
+pub among_has : (users : List (List ℕ)) (user : List ℕ) → Among user users → has_user users user ≡ true
 among_has [] user h = absurd h
 among_has (one ∷ users) user (inl same) = ap (λ b. b || has_user users user) (subst (λ u. eq_by_cmp (slice_cmp nat_cmp) u one ≡ true) same (same_is one))
 among_has (one ∷ users) user (inr later) = either (eq_by_cmp (slice_cmp nat_cmp) user one) (has_user users user) (among_has users user later)

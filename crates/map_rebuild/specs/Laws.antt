@@ -1,12 +1,13 @@
 -- What the calls do to versions and marks is what the machine of membership does to them.
-use Rattle.std.specs.Prelude.{◌≡◌, ◌≢◌, ◌⊎◌, ◌≤◌, ◌+◌, ℕ, Bool, true, false, List, [], ◌∷◌, length, Some}
+use Rattle.std.specs.Prelude.{◌≡◌, ◌≢◌, ◌⊎◌, ◌↔◌, ◌≤◌, ◌<◌, ◌+◌, ℕ, Bool, true, false, List, [], ◌∷◌, length, Some}
 use Rattle.std.specs.List.{list_any}
 use Rattle.mail_model.specs.Identity.{EpochId}
-use Rattle.object_model.specs.Letters.{Membership, Letter}
+use Rattle.object_model.specs.Lists.{Among}
+use Rattle.object_model.specs.Letters.{MapRow, Membership, Letter}
 use Rattle.maps_model.specs.Cluster.{Node, Disk, manages, manages_in}
 use Rattle.maps_model.specs.Rules as rules
 use Rattle.map_rebuild.specs.Users.{has_user}
-use Rattle.map_rebuild.specs.Rows.{version_of, is_marked, install_epoch, marks_of_install, KeepsVersions, SetsVersion, SetsMark, ClearsMark, MarksUsers, is_due_at, counted_before, due_users}
+use Rattle.map_rebuild.specs.Rows.{version_of, is_marked, marked_users, install_epoch, marks_of_install, KeepsVersions, SetsVersion, SetsMark, ClearsMark, MarksUsers, is_due_at, counted_before, due_users, ManagesMarked}
 use Rattle.map_rebuild.specs.declared.reports.Reports.{Reports}
 
 -- the versions and marks of a node are those that stand here
@@ -79,3 +80,11 @@ InstallsAsMachine = (own : ℕ) (node : Node) (disk : Disk) (membership : Member
 abbrev pub InstallsCountAtMost : Type 0
 InstallsCountAtMost = (epoch : EpochId) (buckets : List (List (List ℕ))) (old new : Reports) → install_epoch old ≢ epoch → MarksBuckets epoch buckets old new
     → counted_before epoch new ≤ users_in buckets
+
+-- The marked users are just those who are marked,
+abbrev pub MarkedAreListed : Type 0
+MarkedAreListed = (reports : Reports) (user : List ℕ) → (is_marked reports user ≡ true) ↔ Among user (marked_users reports)
+
+-- and where a row is due and some are wanted, some are given.
+abbrev pub DueAreGiven : Type 0
+DueAreGiven = (map : List MapRow) (node most : ℕ) (reports : Reports) → ManagesMarked map node reports → 0 < most → 0 < length (due_users map node most reports)

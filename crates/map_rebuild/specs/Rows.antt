@@ -1,8 +1,8 @@
 -- What a node remembers of its rows: versions, marks, and how many marks the last install made.
-use Rattle.std.specs.Prelude.{◌≡◌, ℕ, ◌+◌, ◌-◌, ◌^◌, min, Bool, false, ◌&&◌, ◌||◌, nat_eq, List, length, take, Option, Some, None, if◌then◌else◌}
+use Rattle.std.specs.Prelude.{◌≡◌, ℕ, ◌+◌, ◌-◌, ◌^◌, min, Bool, true, false, ◌&&◌, ◌||◌, nat_eq, List, length, take, Option, Some, None, if◌then◌else◌}
 use Rattle.std.specs.Ordering.{nat_cmp}
 use Rattle.std.specs.Cmp.Lexicographic.{slice_cmp}
-use Rattle.std.specs.List.{filter}
+use Rattle.std.specs.List.{filter, list_any}
 use Rattle.std.specs.BTreeMap as tree
 use Rattle.mail_model.specs.Identity.{EpochId}
 use Rattle.object_model.specs.Keys.{is_same_epoch}
@@ -84,3 +84,13 @@ counted_after epoch old new = min (counted_before epoch old + (length (marked_us
 -- the first marked users, in order of names and as many as are wanted, whom the node manages by the map
 abbrev pub due_users : List MapRow → ℕ → ℕ → Reports → List (List ℕ)
 due_users map node most reports = take most (filter (is_managed_by map node) (marked_users reports))
+
+-- whether it manages one of them
+abbrev pub is_any_due : List MapRow → ℕ → Reports → Bool
+is_any_due map node reports = list_any (is_managed_by map node) (marked_users reports)
+
+-- a user is marked whom it manages
+pub record ManagesMarked (map : List MapRow) (node : ℕ) (reports : Reports) : Type 0 where
+  pub user : List ℕ
+  pub marked : is_marked reports user ≡ true
+  pub managed : is_managed_by map node user ≡ true

@@ -1,5 +1,5 @@
 // What the calls are to the machine: functions that do nothing, whose contracts hold of the definitions alone.
-ghost use Rattle.map_rebuild.specs.Laws.{ChangesAsMachine, TellsAsMachine, AcknowledgesAsMachine, ReportsAsMachine, InstallsAsMachine, InstallsCountAtMost};
+ghost use Rattle.map_rebuild.specs.Laws.{ChangesAsMachine, TellsAsMachine, AcknowledgesAsMachine, ReportsAsMachine, InstallsAsMachine, InstallsCountAtMost, MarkedAreListed, DueAreGiven};
 
 /// `mark_user` is the machine's change of a row whose user another node manages.
 pub fn changes_as_the_machine()
@@ -30,4 +30,14 @@ pub fn installs_as_the_machine()
 /// An install counts at most as many marks as users are named to it.
 pub fn installs_count_at_most()
     ensures { InstallsCountAtMost }
+{}
+
+/// The marked users are just those who are marked.
+pub fn marked_are_listed()
+    ensures { MarkedAreListed }
+{}
+
+/// Where a row is due to a manager, `due` gives some users, unless none are wanted.
+pub fn due_are_given()
+    ensures { DueAreGiven }
 {}

@@ -9,10 +9,10 @@
 //! DESCRIPTION
 //!
 //! A row's version is 0 when a boot begins. `Reports::mark_user` notes a change: the version rises by one
-//! and the user is marked. `Reports::due` gives the first marked users of one manager.
-//! `Reports::report_acknowledged` clears a mark only where the version that was acknowledged is still the
-//! row's; else the row has changed since, and is reported again. `Reports::told` clears the mark of a user
-//! whose manager is the node itself.
+//! and the user is marked. `Reports::due` gives the first marked users of one manager, and
+//! `Reports::is_due` tells whether there is any. `Reports::report_acknowledged` clears a mark only where
+//! the version that was acknowledged is still the row's; else the row has changed since, and is reported
+//! again. `Reports::told` clears the mark of a user whose manager is the node itself.
 //!
 //! `Reports::mark_bucket` marks the users of one bucket at an install of a new epoch. Marks made earlier
 //! stay, and versions stay. `Reports::marked_at_install` counts the marks that the last install made. A
@@ -38,7 +38,7 @@ mod reports;
 mod versions;
 
 pub use laws::{
-    acknowledges_as_the_machine, changes_as_the_machine, installs_as_the_machine,
-    installs_count_at_most, reports_as_the_machine, tells_as_the_machine,
+    acknowledges_as_the_machine, changes_as_the_machine, due_are_given, installs_as_the_machine,
+    installs_count_at_most, marked_are_listed, reports_as_the_machine, tells_as_the_machine,
 };
 pub use reports::Reports;

@@ -2,7 +2,7 @@
 ghost use Rattle.std.specs.Prelude.{◌≡◌, ◌≤◌, ◌+◌, ◌||◌, ◌&&◌, true, false, not, List, ℕ, length, take, IfOk, OnOk, OnErr};
 ghost use Rattle.std.specs.Ordering.{nat_cmp};
 ghost use Rattle.std.specs.Cmp.Lexicographic.{slice_cmp};
-ghost use Rattle.std.specs.List.{filter};
+ghost use Rattle.std.specs.List.{filter, list_any};
 ghost use Rattle.std.specs.List.Sorted.{IsStrictlySortedBy};
 ghost use Rattle.maps_model.specs.Rules.{set_at};
 ghost use Rattle.user_map.specs.Managers.{is_managed_by};
@@ -115,4 +115,11 @@ pub(crate) fn due_in(
         }
     }
     Ok(users)
+}
+
+// Whether one of them has this manager.
+pub(crate) fn any_due_in(marked: &BTreeSet<Name>, map: &UserMap, to: NodeNo) -> bool
+    ensures { result ≡ list_any (is_managed_by map.now to) marked.now.keys }
+{
+    marked.iter().any(|user| manages(map, to, user))
 }

@@ -4,9 +4,9 @@ ghost use Rattle.std.specs.Ordering.{nat_cmp};
 ghost use Rattle.std.specs.Cmp.Lexicographic.{slice_cmp};
 ghost use Rattle.std.specs.List.Sorted.{IsStrictlySortedBy};
 ghost use Rattle.mail_model.specs.Identity.{no_epoch};
-ghost use Rattle.map_rebuild.specs.Rows.{version_of, is_marked, marked_users, install_epoch, marks_of_install, HasSameReports, KeepsVersions, KeepsMarks, SetsVersion, SetsMark, ClearsMark, MarksUsers, is_due_at, KeepsCount, counted_before, counted_after, due_users};
+ghost use Rattle.map_rebuild.specs.Rows.{version_of, is_marked, marked_users, install_epoch, marks_of_install, HasSameReports, KeepsVersions, KeepsMarks, SetsVersion, SetsMark, ClearsMark, MarksUsers, is_due_at, KeepsCount, counted_before, counted_after, due_users, is_any_due, ManagesMarked};
 
-use crate::marks::{due_in, has, put, put_all, take_out};
+use crate::marks::{any_due_in, due_in, has, put, put_all, take_out};
 use crate::versions::{set_version, version_in};
 use mail_base::{EpochId, Name, Names, NodeNo, UserMap};
 use std::alloc::{AllocError, Global};
@@ -141,6 +141,15 @@ impl Reports {
         ensures in_order { IsStrictlySortedBy (slice_cmp nat_cmp) (marked_users self.now) }
     {
         due_in(&self.marked, self.alloc, map, to, most)
+    }
+
+    /// Whether the node manages a marked user by this map: a row is due to it. It goes through the marked users in the order of
+    /// their names, takes no memory, and stops at the first.
+    pub fn is_due(&self, map: &UserMap, to: NodeNo) -> bool
+        ensures any { result ≡ is_any_due map.now to self.now }
+        ensures due { IsTrue result ↔ ManagesMarked map.now to self.now }
+    {
+        any_due_in(&self.marked, map, to)
     }
 
     /// The manager has the user's row of this version: the mark is cleared. False, with nothing changed, exactly where no

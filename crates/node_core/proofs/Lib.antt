@@ -9,6 +9,7 @@ pub mod Going
 pub mod Heard
 pub mod Listing
 pub mod Lists
+pub mod Owing
 pub mod Parts
 pub mod Promising
 pub mod PushRead

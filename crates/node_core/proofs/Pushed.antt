@@ -24,7 +24,7 @@ use Rattle.cluster_model.specs.Room.{Flight, octets_of, octets_of_all, message_o
 use Rattle.node_core.specs.Pushing.{first_within, keys_within, pushed_by, untold_body, untold}
 
 -- each of these entries is found under its key
-abbrev EachFound : List (Key × Logged) → List (Key × Logged) → Type 0
+abbrev pub EachFound : List (Key × Logged) → List (Key × Logged) → Type 0
 EachFound all [] = Unit {0}
 EachFound all (e ∷ es) = (find key_cmp e.0 all ≡ Some e.1) × EachFound all es
 
@@ -46,7 +46,7 @@ later_found e all (f ∷ es) below each =
     let parts = both_true (is_lt (key_cmp e.0 f.0)) (below_all key_cmp e.0 es) below in
     (ap (λ (b : Bool). cond b (Some e.1) (find key_cmp f.0 all)) (untied e.0 f.0 parts.0) ∙ each.0, later_found e all es parts.1 each.1)
 
-each_found : (es : List (Key × Logged)) → T (is_sorted key_cmp es) → EachFound es es
+pub each_found : (es : List (Key × Logged)) → T (is_sorted key_cmp es) → EachFound es es
 each_found [] sorted = tt
 each_found (e ∷ es) sorted =
     let parts = both_true (below_all key_cmp e.0 es) (is_sorted key_cmp es) sorted in

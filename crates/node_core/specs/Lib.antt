@@ -9,6 +9,7 @@ pub mod Installing
 pub mod Listing
 pub mod Naming
 pub mod Nodes
+pub mod Owing
 pub mod PushReads
 pub mod Pushing
 pub mod Promising

@@ -1,22 +1,27 @@
 //! What a node tells.
-ghost use Rattle.std.specs.Prelude.{◌≡◌, ◌≤◌, not, List, true, IfOk, if◌then◌else◌};
-ghost use Rattle.std.specs.List.{list_all};
+ghost use Rattle.std.specs.Prelude.{◌≡◌, ◌↔◌, not, List, IsTrue, IfOk};
+ghost use Rattle.std.specs.List.{list_any};
 ghost use Rattle.std.specs.Option.{option_copied};
 ghost use Rattle.mail_model.specs.Record.{Record};
 ghost use Rattle.object_model.specs.Said.{said};
-ghost use Rattle.object_model.specs.Sets.{has, nodes_in};
-ghost use Rattle.object_model.specs.UpdateLog.{owes};
 ghost use Rattle.mail_base.specs.Seen.{key_seen};
-ghost use Rattle.cluster_model.specs.Cluster.{epoch_of, members_of};
+ghost use Rattle.cluster_model.specs.Cluster.{epoch_of};
 ghost use Rattle.node_store.specs.Mailboxes.{AreIdsHere, AreUsersSaid};
-ghost use Rattle.node_core.specs.Nodes.{node_seen, NodeKeeps, IsWhole};
+ghost use Rattle.node_core.specs.Nodes.{node_seen, NodeKeeps};
+ghost use Rattle.node_core.specs.Owing.{is_owed, owes_another, OwesAnother};
 
 use crate::installed::epoch_in;
 use crate::node::Node;
-use crate::nodes::node_of;
-use mail_base::{EpochId, Ids, Key, Name, Names, NodeNo, NodeSet, ObjState};
+use mail_base::{EpochId, Ids, Key, Member, Name, Names, NodeNo, ObjState};
 use node_store::NodeStore;
 use std::alloc::{AllocError, Global};
+
+// Whether another of these members than the node itself remains in an entry of the log.
+fn owes_any(store: &NodeStore, members: &[Member]) -> bool
+    ensures { result ≡ list_any (is_owed store.now.own store.now.log) members.now }
+{
+    members.iter().any(|member| member.node != store.own() && store.owes(member.node))
+}
 
 impl Node {
     /// The node's number.
@@ -78,37 +83,22 @@ impl Node {
         self.store.users(alloc)
     }
 
-    // Whether nothing is due to the node, if the set has it.
-    fn is_done_with(&self, set: NodeSet, node: NodeNo) -> bool
-        ensures { result ≡ (if has set node then not (owes self.now.store.log node) else true) }
+    // Whether anything is owed to another member.
+    fn owes_another(&self) -> bool
+        ensures { result ≡ owes_another self.now.store.own (node_seen self.now) }
     {
-        if set.has(node) {
-            !self.store.owes(node)
-        } else {
-            true
+        match &self.shape.installed {
+            Some(install) => owes_any(&self.store, install.members.as_slice()),
+            None => false,
         }
     }
 
-    // Whether nothing is due to the nodes of the set, of those from 1 to so many.
-    fn is_done_with_all(&self, set: NodeSet, nodes: u8) -> bool
-        requires { nodes ≤ 16 }
-        ensures { result ≡ list_all (λ n. not (owes self.now.store.log n)) (nodes_in set nodes) }
-    {
-        if nodes == 0 {
-            return true;
-        }
-        if !self.is_done_with(set, node_of(nodes)) {
-            return false;
-        }
-        self.is_done_with_all(set, nodes - 1)
-    }
-
-    /// Whether no member remains in an entry of the log: nothing is due to any node. It takes no memory, and at most a pass over
-    /// the log for each member.
+    /// Whether nothing is owed to another member of the epoch that it has installed: none remains in an entry of its log. The
+    /// node itself never counts. It takes no memory, and at most a pass over the log for each member.
     pub fn is_settled(&self) -> bool
-        requires whole { IsWhole self.now }
-        ensures { result ≡ list_all (λ n. not (owes self.now.store.log n)) (nodes_in (members_of (node_seen self.now)) self.now.shape.nodes) }
+        ensures test { result ≡ not (owes_another self.now.store.own (node_seen self.now)) }
+        ensures settled { IsTrue result ↔ (OwesAnother self.now.store.own (node_seen self.now) → ⊥) }
     {
-        self.is_done_with_all(self.member_set(), self.shape.nodes)
+        !self.owes_another()
     }
 }

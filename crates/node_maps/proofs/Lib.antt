@@ -6,3 +6,4 @@ pub mod Formed
 pub mod Noted
 pub mod Conclusions
 pub mod Calls
+pub mod Named

@@ -3,3 +3,4 @@ pub mod Hearing
 pub mod Rounds
 pub mod Entering
 pub mod Laws
+pub mod Naming

@@ -10,7 +10,8 @@
 //! A node starts without an epoch (`NodeMaps::new`), and the messages that its disk tells are found one by
 //! one (`find`). It opens a group (`start_group`), hears the letters Group, Join, Install, Report and
 //! ReportAck (`hear`), concludes its group (`conclude`), reports its rows that are due (`report`), and notes
-//! each message that comes to be here or is here no more (`note`).
+//! each message that comes to be here or is here no more (`note`). It tells whether a row is due to a node
+//! (`owes_rows`), and whom it names as having mail of a user (`named`).
 //!
 //! Contracts see the node of the machine in `maps_model` (`node_of`), and each call is that machine's rule:
 //! the node that is left, the letters in the machine's order, and why a letter is thrown. The disk is any
@@ -46,6 +47,7 @@ mod hearing;
 pub mod laws;
 mod letters;
 mod maps;
+mod naming;
 mod noting;
 mod opening;
 mod reporting;

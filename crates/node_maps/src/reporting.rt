@@ -1,8 +1,13 @@
 // Rows that are due go to their managers.
-ghost use Rattle.std.specs.Prelude.{◌≡◌, ◌≢◌, map, None, IfOk};
+ghost use Rattle.std.specs.Prelude.{◌≡◌, ◌≢◌, ◌↔◌, map, None, Some, IsTrue, IfOk};
+ghost use Rattle.std.specs.Ordering.{nat_cmp};
+ghost use Rattle.std.specs.Cmp.Lexicographic.{slice_cmp};
+ghost use Rattle.std.specs.List.Sorted.{IsStrictlySortedBy};
+ghost use Rattle.object_model.specs.Letters.{Membership};
 ghost use Rattle.object_model.specs.Letters.Body.{Report};
-ghost use Rattle.map_rebuild.specs.Rows.{due_users};
-ghost use Rattle.node_maps.specs.Nodes.{own_of, row_of};
+ghost use Rattle.map_rebuild.specs.Rows.{due_users, marked_users};
+ghost use Rattle.node_maps.specs.Nodes.{node_of, own_of, row_of};
+ghost use Rattle.node_maps.specs.Naming.{HasRowFor};
 ghost use Rattle.node_maps.specs.Rounds.{ReportsAs};
 
 use crate::entering::own_row;
@@ -52,7 +57,8 @@ impl NodeMaps {
         to: NodeNo,
         most: usize,
     ) -> Result<Sequence<Letter>, AllocError>
-        ensures { IfOk result (λ letters. letters ≡ map (λ user. record { from = own_of self.now; to = to; epoch = install.now.epoch; ticket = None; body = Report (row_of (own_of self.now) self.now.group.boot self.now.reports self.now.fragments user) }) (due_users install.now.map to most self.now.reports)) }
+        ensures letters { IfOk result (λ letters. letters ≡ map (λ user. record { from = own_of self.now; to = to; epoch = install.now.epoch; ticket = None; body = Report (row_of (own_of self.now) self.now.group.boot self.now.reports self.now.fragments user) }) (due_users install.now.map to most self.now.reports)) }
+        ensures in_order { IsStrictlySortedBy (slice_cmp nat_cmp) (marked_users self.now.reports) }
     {
         let users = self.reports.due(&install.map, to, most)?;
         self.reports_of(alloc, install.epoch, to, users.as_slice())
@@ -71,11 +77,23 @@ impl NodeMaps {
         most: usize,
     ) -> Result<Sequence<Letter>, AllocError>
         requires { to ≢ own_of self.now }
-        ensures { ReportsAs to most result self.now }
+        ensures reports { ReportsAs to most result self.now }
+        ensures in_order { (membership : Membership) → self.now.group.installed ≡ Some membership → IsStrictlySortedBy (slice_cmp nat_cmp) (marked_users self.now.reports) }
     {
         match self.group.installed() {
             Some(install) => self.reports_in(alloc, install, to, most),
             None => Ok(no_letters(alloc)),
+        }
+    }
+
+    /// Whether a row is due to the node: it manages a marked user in the epoch that is installed. It takes no memory, and stops
+    /// at the first.
+    pub fn owes_rows(&self, to: NodeNo) -> bool
+        ensures { IsTrue result ↔ HasRowFor to (node_of self.now) }
+    {
+        match self.group.installed() {
+            Some(install) => self.reports.is_due(&install.map, to),
+            None => false,
         }
     }
 }

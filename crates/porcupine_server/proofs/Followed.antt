@@ -11,7 +11,7 @@ use Rattle.session_model.specs.Calls.{Call, Answer}
 use Rattle.session_model.specs.Sums.{BookSum}
 use Rattle.session_model.specs.Talk.{Exchange}
 use Rattle.session_model.specs.Events.{ClusterEvent}
-use Rattle.session_model.specs.Events.ClusterEvent.{WentDown, CameUp, WasLost, WasHeard, WasThrown, WasDropped, HasFlowed, HasSent, HasWidened, HasGrouped, HasFormed, HasTicked, HasSummed, HasFaulted}
+use Rattle.session_model.specs.Events.ClusterEvent.{WentDown, CameUp, WasLost, WasHeard, WasThrown, WasDropped, HasFlowed, HasSent, HasWidened, HasGrouped, HasFormed, HasSettled, WasAbsent, HasMapped, HasTicked, HasSummed, HasFaulted}
 use Rattle.session_model.specs.Lives.{life_after}
 use Rattle.session_model.specs.SoundMails.{IsSoundMail}
 use Rattle.session_model.specs.Acts.{Act}
@@ -33,9 +33,9 @@ use Rattle.cluster_world.specs.Seen.{step_seen, outcome_seen}
 use Rattle.cluster_world.specs.Ended.{IsEnded}
 use Rattle.cluster_world.specs.Steps.{IsStep}
 use Rattle.cluster_world.specs.Lives.{nodes_up}
-use Rattle.cluster_world.specs.Made.{StepMade, has_failed}
-use Rattle.cluster_world.specs.Outcomes.{Outcome, Awaited, Came, Makes, IsLeave, without_session, left_after, left_after_all, fallen_in}
-use Rattle.cluster_world.specs.Outcomes.Outcome.{Began, Refused, Fell, Broke, Answers, StillPending, Unanswered, GaveUp, Abandoned, KeptUp, Left, Moved}
+use Rattle.cluster_world.specs.Made.{StepMade, MakesSteps, has_failed}
+use Rattle.cluster_world.specs.Outcomes.{Outcome, Awaited, Came, Makes, IsLeave, map_seen, without_session, left_after, left_after_all, fallen_in}
+use Rattle.cluster_world.specs.Outcomes.Outcome.{Began, Refused, Fell, Broke, Answers, StillPending, Unanswered, GaveUp, Abandoned, KeptUp, Left, Moved, Settling, Mapped}
 use Rattle.cluster_world.specs.declared.world.World.{World}
 use Rattle.cluster_world.specs.declared.step.Step.{Step}
 use Rattle.cluster_world.specs.declared.step.Step.TheVariants as step
@@ -46,8 +46,13 @@ use Rattle.cluster_world.proofs.Ended.{sound_ended}
 use Rattle.cluster_world.proofs.SeenAlike.{made_alike, told_alike}
 use Rattle.cluster_world.proofs.Mirrors.{IsOf, Led as LedOn, led}
 use Rattle.cluster_world.specs.Regroups.{AllWentOn}
-use Rattle.drive_tape.specs.Led.{Begins, EndsIn, WentWell, Tells, told_of, Led, AreLed}
-use Rattle.porcupine_server.proofs.MachineOrders.{made_seen, failed_alike, Ordered, known_on, order_follows}
+use Rattle.drive_tape.specs.Led.{Begins, EndsIn, WentWell, Tells, TellsSettle, TellsMove, told_of, Led, AreLed}
+use Rattle.drive_tape.specs.Led.TellsMove.{OfSteps, OfSettle, OfMap}
+use Rattle.drive_tape.proofs.Settles.{goes_went}
+use Rattle.cluster_world.specs.Settling.{AreOfSettle, MakesSettle, Goes}
+use Rattle.cluster_world.specs.declared.settling.Settle.{Settle}
+use Rattle.cluster_world.specs.declared.settling.Settle.TheVariants as settle
+use Rattle.porcupine_server.proofs.MachineOrders.{made_seen, failed_alike, Ordered, known_on, order_follows, settle_follows, map_follows}
 
 -- a call that is awaited, as it stands in the machine
 abbrev pub standing_of : Awaited → Standing
@@ -129,6 +134,7 @@ fine made (Ok (said.Faulted node)) event is = absurd (by made is)
     by (step.Widen at user id to) e = none-some event e
     by (step.Group at) e = none-some event e
     by (step.Conclude at) e = none-some event e
+    by (step.Report from to) e = none-some event e
     by (step.Crash at) e = none-some event e
     by (step.Start at) e = none-some event e
     by (step.Lose at) e = none-some event e
@@ -145,6 +151,7 @@ fine made (Err why) event is = absurd (by made is)
     by (step.Widen at user id to) e = none-some event e
     by (step.Group at) e = none-some event e
     by (step.Conclude at) e = none-some event e
+    by (step.Report from to) e = none-some event e
     by (step.Crash at) e = none-some event e
     by (step.Start at) e = none-some event e
     by (step.Lose at) e = none-some event e
@@ -168,9 +175,14 @@ went_so : (asked : ClusterOrder) (steps : List StepMade) (sum : BookSum) (event 
 went_so asked steps sum (HasFaulted node) tells = ends_alike (Ok (said.Faulted node)) steps tells
 went_so ClusterOrder.Flow steps sum HasFlowed tells = well_alike steps tells
 went_so (ClusterOrder.Push node) steps sum (HasSent count) tells = well_alike steps tells.0
+went_so (ClusterOrder.Report node) steps sum (HasSent count) tells = well_alike steps tells.0
 went_so ClusterOrder.Sum steps sum (HasSummed told) tells = well_alike steps (subst WentWell (sym tells.0) tt)
 went_so (ClusterOrder.Regroup node) steps sum (HasFormed epoch members) tells = well_alike steps (went_on steps tells.1.well)
 went_so asked steps sum event tells = told_well event steps tells
+
+-- what a settle tells of its steps
+goes_told : (steps : List StepMade) → AllWentOn steps → asks.WentWell (map made_seen steps)
+goes_told steps well = well_alike steps (went_on steps well)
 
 -- a Leave hands in no text
 leave_ended : (user : List ℕ) (begun : WorldCall) → IsLeave user begun → IsTextEnded (machine_call begun)
@@ -326,6 +338,49 @@ module _ {D : Type 0} (on : View D) (plan : Plan) (lines : List (List ℕ)) wher
           stood = λ a m. stood a (fewer_all made awaited a (subst (Among a) left_is m));
         }
 
+    -- a settle
+    settles : (result : Result Settle StepFault) (made : List StepMade) (event : ClusterEvent) → TellsSettle result event → Came on (Settling result made) awaited old between mid → OneMade (MakesAct ClusterOrder.Settle event) standing w between mid
+    settles result made event tells (makes, are, left_is) =
+        let o = settle_follows on plan made old mid known w stands (subst AreOfSettle are makes.of) (subst (λ (l : List StepMade). MakesSteps on l old mid) are makes.made) in
+        record {
+          now = standing;
+          next = o.next;
+          follows = (map made_seen made, o.makes, subst (λ (l : List StepMade). asks.WentSo event (map made_seen l)) are (went result makes tells), refl);
+          stands = o.stands;
+          known = o.known;
+          stood = λ a m. stood a (fewer_all made awaited a (subst (Among a) left_is m));
+        }
+      where
+        went : (r : Result Settle StepFault) (m : MakesSettle on r old mid) → TellsSettle r event → asks.WentSo event (map made_seen m.steps)
+        went (Ok settle.Settled) m is = subst (λ (e : ClusterEvent). asks.WentSo e (map made_seen m.steps)) (sym is) (goes_told m.steps (goes_went on old mid m.steps m.shape.0))
+        went (Ok (settle.NotAllUp member)) m is = subst (λ (e : ClusterEvent). asks.WentSo e (map made_seen m.steps)) (sym is) (⊎_elim
+            (λ (none : (m.steps ≡ []) × (mid ≡ old)). subst (λ (l : List StepMade). asks.WentWell (map made_seen l)) (sym none.0) tt)
+            (λ (goes : Goes on old mid m.steps). goes_told m.steps (goes_went on old mid m.steps goes)) m.shape.0)
+        went (Ok (settle.Fault failed)) m is = subst (λ (e : ClusterEvent). asks.WentSo e (map made_seen m.steps)) (sym is)
+            (ends_alike (Ok (said.Faulted failed)) m.steps (m.shape.front, m.shape.one, m.shape.split, m.shape.failed))
+        went (Err cause) m is = absurd is
+
+    -- a map
+    maps : (user : List ℕ) (told : Option (ℕ × ℕ)) (event : ClusterEvent) → event ≡ HasMapped user (map_seen told) → Came on (Mapped user told) awaited old between mid → OneMade (MakesAct (ClusterOrder.Maps user) event) standing w between mid
+    maps user told event is (told_is, left_is, same) =
+        let o = map_follows on plan user old mid known w stands same in
+        record {
+          now = standing;
+          next = o.next;
+          follows = ([], o.makes, subst (λ (e : ClusterEvent). asks.WentSo e []) (sym is) tt, refl);
+          stands = o.stands;
+          known = o.known;
+          stood = λ a m. stood a (subst (Among a) left_is m);
+        }
+
+    -- what an order tells
+    tells_of : (up : List ℕ) (asked : ClusterOrder) (event : ClusterEvent) (outcome : Outcome) → TellsMove up asked event outcome → Came on outcome awaited old between mid → OneMade (MakesAct asked event) standing w between mid
+    tells_of up asked event outcome (OfSteps made sum is tells) came = moves asked made sum up event tells (subst (λ (o : Outcome). Came on o awaited old between mid) is came)
+    tells_of up asked event outcome (OfSettle result made settles_it is tells) came =
+        subst (λ (o : ClusterOrder). OneMade (MakesAct o event) standing w between mid) (sym settles_it) (settles result made event tells (subst (λ (o : Outcome). Came on o awaited old between mid) is came))
+    tells_of up asked event outcome (OfMap user told maps_it is tells) came =
+        subst (λ (o : ClusterOrder). OneMade (MakesAct o event) standing w between mid) (sym maps_it) (maps user told event tells (subst (λ (o : Outcome). Came on o awaited old between mid) is came))
+
   -- one act
   one_act : (act : Act) (planned : Plan) (been : List Act) (before own rest : List Outcome) → Led planned been before act own → (standing : List Standing) (w : machine.World) (awaited left : List Awaited) (old last : World D)
       → IsOf on plan true old → StandsFor on old w → HaveStood awaited standing → ((outcome : Outcome) → Among outcome own → IsPlaced outcome)
@@ -384,8 +439,7 @@ module _ {D : Type 0} (on : View D) (plan : Plan) (lines : List (List ℕ)) wher
       by (Faults node) l = idle (Faults node) (refl, refl) l.0
       by (StillWaits k) l = once (StillWaits k) (StillPending k l.0) l.1 (λ between mid came. waits standing w awaited between old mid known stands stood k l.0 came)
       by (Leaves k user) l = once (Leaves k user) (Left k l.0 user) l.1 (λ between mid came. leaves standing w awaited between old mid known stands stood k l.0 user (the_one (Left k l.0 user) l.1) came)
-      by (MakesAct asked event) l = once (MakesAct asked event) (Moved asked l.0 l.1 (nodes_up (life_after been) planned.nodes)) l.2
-          (λ between mid came. moves standing w awaited between old mid known stands stood asked l.0 l.1 (nodes_up (life_after been) planned.nodes) event l.3 came)
+      by (MakesAct asked event) l = once (MakesAct asked event) l.0 l.1 (λ between mid came. tells_of standing w awaited between old mid known stands stood (nodes_up (life_after been) planned.nodes) asked event l.0 l.2 came)
       by (Abandons k) l = once (Abandons k) (Abandoned k l.0 l.1) l.2 (λ between mid came. abandons standing w awaited between old mid known stands stood k l.0 l.1 came)
 
   -- acts, one after another

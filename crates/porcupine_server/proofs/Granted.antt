@@ -34,9 +34,10 @@ use Rattle.cluster_world.specs.Opens.{IsAtBeginning}
 use Rattle.cluster_world.specs.Worlds.{plan_of, disks_tell, StandsFor}
 use Rattle.cluster_world.specs.Seen.{outcome_seen}
 use Rattle.cluster_world.specs.Owing.{IsOfSession, AreOfSessions}
-use Rattle.cluster_world.specs.Made.{StepMade}
+use Rattle.cluster_world.specs.Made.{StepMade, MakesSteps}
+use Rattle.cluster_world.specs.Settling.{AreOfSettle, IsRefusedBy, SweepsInVain}
 use Rattle.cluster_world.specs.Outcomes.{Outcome, Awaited, Came, Makes, made_of}
-use Rattle.cluster_world.specs.Outcomes.Outcome.{Began, Refused, Fell, Broke, Answers, StillPending, Unanswered, GaveUp, Abandoned, KeptUp, Left, Moved}
+use Rattle.cluster_world.specs.Outcomes.Outcome.{Began, Refused, Fell, Broke, Answers, StillPending, Unanswered, GaveUp, Abandoned, KeptUp, Left, Moved, Settling, Mapped}
 use Rattle.cluster_world.specs.declared.world.World.{World}
 use Rattle.cluster_world.specs.declared.step.Step.TheVariants as step
 use Rattle.cluster_world.specs.declared.step.Said.{Said}
@@ -46,12 +47,13 @@ use Rattle.cluster_world.proofs.Mirrors.{IsOf, led}
 use Rattle.drive_tape.specs.declared.drove.TapeFault.{TapeFault}
 use Rattle.drive_tape.specs.declared.drove.Stop.TheVariants as why
 use Rattle.drive_tape.specs.Denials.{stop_by}
+use Rattle.drive_tape.proofs.Settles.{stays_cause}
 use Rattle.drive_tape.specs.Led.{AreLed, AreLedTo, EndsWith, IsUntold, AreDenied}
 use Rattle.drive_tape.specs.Drive.{IsDenied, EndsDenied}
 use Rattle.drive_tape.specs.Points.{IsAtOwnNode, AreAtOwnNodes}
 use Rattle.drive_tape.proofs.Kept.{of_sessions}
 use Rattle.drive_tape.proofs.OpenedKinds.{driven_kinds}
-use Rattle.porcupine_server.proofs.MachineOrders.{made_seen, order_follows}
+use Rattle.porcupine_server.proofs.MachineOrders.{made_seen, order_follows, settle_follows}
 use Rattle.porcupine_server.proofs.Followed.{IsPlaced, Followed, ends_alike, all_acts}
 
 own_among : (sessions : List Session) (outcomes : List Outcome) (outcome : Outcome) → AreAtOwnNodes sessions outcomes → Among outcome outcomes → IsAtOwnNode sessions outcome
@@ -131,6 +133,8 @@ module _ {D : Type 0} (on : View D) (start last : World D) (begins : IsAtBeginni
       by (Abandoned k asked ticket) own of_it = tt
       by (KeptUp k ticket cause) own of_it = tt
       by (Moved asked made sum up) own of_it = tt
+      by (Settling result made) own of_it = tt
+      by (Mapped user told) own of_it = tt
 
   done_are : leads.done ≡ flat_map (λ a. a) (acts ++ behind)
   done_are = sym (append-nil leads.done) ∙ ap (λ l. leads.done ++ l) (sym (none_left leads.last leads.rest stop lacking driven.extra leads.ends ample)) ∙ sym leads.acts_are
@@ -142,26 +146,35 @@ module _ {D : Type 0} (on : View D) (start last : World D) (begins : IsAtBeginni
       (λ outcome m. placed outcome (subst (Among outcome) (sym leads.outcomes_are) (among_front outcome leads.own leads.rest m)))
       (subst (λ l. Makes on l [] start awaited last) leads.outcomes_are makes))
 
+  -- the steps that the order of a line asks for are denied there
+  denied_there : (asked : ClusterOrder) (o : Order) (made : Made) → Made.Moves asked ≡ made → FirstStep o sessions made → Grants plan o followed.now followed.next → (ms : List MadeStep) (f : steps.StepFault) (next : machine.World)
+      → asks.MakesOrder plan asked ms followed.next next → asks.AreDenied asked f ms → ⊥
+  denied_there asked (tape.Moves other) made is_made (may, is_move) grants ms f next makes_it ends =
+      let e : Made.Moves asked ≡ Made.Moves other = is_made ∙ is_move in
+      let same_order : asked ≡ other = cc in
+      grants ms f next (subst (λ a. asks.MakesOrder plan a ms followed.next next) same_order makes_it) (subst (λ a. asks.AreDenied a f ms) same_order ends)
+  denied_there asked (tape.GiveUp k) made is_made is_give grants ms f next makes_it ends = let e : Made.Moves asked ≡ Made.GivesUp k = is_made ∙ is_give in cc
+  denied_there asked (tape.Close k) made is_made (waits, is_give) grants ms f next makes_it ends = let e : Made.Moves asked ≡ Made.GivesUp k = is_made ∙ is_give in cc
+  denied_there asked (tape.Open protocol node) made is_made none grants ms f next makes_it ends = none
+  denied_there asked (tape.Say k text) made is_made none grants ms f next makes_it ends = none
+  denied_there asked (tape.Feed k octets) made is_made none grants ms f next makes_it ends = none
+  denied_there asked tape.End made is_made none grants ms f next makes_it ends = none
+
   -- the step of this outcome was refused, and so the machine refuses one that the order asks for
   refuses_by : (order : Order) (made : Made) (fault : TapeFault) → FirstStep order sessions made → Grants plan order followed.now followed.next
       → (outcome : Outcome) → IsDenied fault outcome → made_of outcome ≡ made → (between : List Awaited) (mid : World D) → Came on outcome followed.between followed.mid between mid → ⊥
   refuses_by order made fault first_step grants (Moved asked made_steps sum up) (cause, denied, stops) is_made between mid (makes_order, left_is, sum_is, up_is) =
       let r = is_refusal cause fault stops in
       let o = order_follows on plan asked made_steps followed.mid mid followed.known followed.next followed.stands makes_order in
-      by order first_step grants (map made_seen made_steps) r.0 o.next o.makes (denied_alike asked cause r.0 r.1 made_steps denied)
-    where
-      by : (o : Order) → FirstStep o sessions made → Grants plan o followed.now followed.next → (ms : List MadeStep) (f : steps.StepFault) (next : machine.World)
-          → asks.MakesOrder plan asked ms followed.next next → asks.AreDenied asked f ms → ⊥
-      by (tape.Moves other) (may, is_move) grants ms f next makes_it ends =
-          let e : Made.Moves asked ≡ Made.Moves other = is_made ∙ is_move in
-          let same_order : asked ≡ other = cc in
-          grants ms f next (subst (λ a. asks.MakesOrder plan a ms followed.next next) same_order makes_it) (subst (λ a. asks.AreDenied a f ms) same_order ends)
-      by (tape.GiveUp k) is_give grants ms f next makes_it ends = let e : Made.Moves asked ≡ Made.GivesUp k = is_made ∙ is_give in cc
-      by (tape.Close k) (waits, is_give) grants ms f next makes_it ends = let e : Made.Moves asked ≡ Made.GivesUp k = is_made ∙ is_give in cc
-      by (tape.Open protocol node) none grants ms f next makes_it ends = none
-      by (tape.Say k text) none grants ms f next makes_it ends = none
-      by (tape.Feed k octets) none grants ms f next makes_it ends = none
-      by tape.End none grants ms f next makes_it ends = none
+      denied_there asked order made is_made first_step grants (map made_seen made_steps) r.0 o.next o.makes (denied_alike asked cause r.0 r.1 made_steps denied)
+  refuses_by order made fault first_step grants (Settling (Err cause) made_steps) stops is_made between mid (makes_it, are, left_is) = ⊎_elim
+      (λ (by_step : IsRefusedBy cause makes_it.steps).
+      let r = is_refusal by_step.cause fault (stays_cause by_step.cause fault (sym (ap stop_by by_step.is) ∙ stops)) in
+      let o = settle_follows on plan made_steps followed.mid mid followed.known followed.next followed.stands (subst AreOfSettle are makes_it.of) (subst (λ (l : List StepMade). MakesSteps on l followed.mid mid) are makes_it.made) in
+      denied_there order.Settle order made is_made first_step grants (map made_seen made_steps) r.0 o.next o.makes
+      (denied_alike order.Settle by_step.cause r.0 r.1 made_steps (by_step.ends.front, by_step.ends.one, sym are ∙ by_step.ends.split, by_step.ends.failed)))
+      (λ (vain : SweepsInVain on cause followed.mid mid makes_it.steps). let never : why.NoMemory ≡ why.Bad fault = sym (ap stop_by vain.is) ∙ stops in cc)
+      makes_it.shape
   refuses_by order made fault first_step grants (KeptUp k ticket cause) stops is_made between mid (asked, among, is, left_is) =
       let r = is_refusal cause fault stops in
       let l = led on plan true (Err cause) (step.GiveUp ticket) followed.mid mid followed.known (inl refl) tt is followed.next followed.stands in

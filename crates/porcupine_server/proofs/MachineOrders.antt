@@ -15,11 +15,16 @@ use Rattle.accepted_tapes.specs.Orders as asks
 use Rattle.node_store.specs.Disks.{View}
 use Rattle.cluster_world.specs.Flights.{first_number}
 use Rattle.cluster_world.specs.Lives.{of_node, life_seen}
-use Rattle.cluster_world.specs.Worlds.{state_of, life_of, seen_life, StandsFor}
+use Rattle.cluster_world.specs.Worlds.{state_of, life_of, seen_life, node_in, StandsFor}
+use Rattle.cluster_world.specs.Telling.{members_seen}
+use Rattle.cluster_world.specs.Settling.{IsOfSettle, AreOfSettle}
+use Rattle.cluster_world.specs.Settling.IsOfSettle.{Posts, Pushes, Reports}
+use Rattle.cluster_world.proofs.Ordered.{reports_none}
+use Rattle.cluster_model.specs.Steps as steps
 use Rattle.cluster_world.specs.Seen.{step_seen, outcome_seen}
 use Rattle.cluster_world.specs.Ended.{IsEnded}
 use Rattle.cluster_world.specs.Steps.{IsStep}
-use Rattle.cluster_world.specs.Made.{StepMade, MakesSteps, IsPost, IsOfRegroup, AreOfRegroup, PostsAll, PushesTo, PushesAll, MakesOne, has_failed, nodes_but}
+use Rattle.cluster_world.specs.Made.{StepMade, MakesSteps, IsPost, IsOfRegroup, AreOfRegroup, PostsAll, StepsTo, PushesTo, PushesAll, ReportsAll, MakesOne, has_failed, nodes_but, others_in}
 use Rattle.cluster_world.specs.Outcomes.{MakesOrder}
 use Rattle.cluster_world.specs.declared.life.Life.{Life}
 use Rattle.cluster_world.specs.declared.world.World.{World}
@@ -189,6 +194,40 @@ module _ {D : Type 0} (on : View D) (plan : Plan) where
   regroups node [] of = (tt, tt)
   regroups node (one ∷ more) of = let first = regroups_one node one of.0 in let rest = regroups node more of.1 in ((first.0, rest.0), (first.1, rest.1))
 
+  -- a step of a settle
+  settles_one : (one : StepMade) → IsOfSettle one → asks.IsOfSettle (made_seen one) × IsEnded one.step
+  settles_one one (Posts post) = (inl (post.0, ap step_seen post.1), subst IsEnded (sym post.1) tt)
+  settles_one one (Pushes from to apart is) = (inr (inl (from, to, ap step_seen is)), subst IsEnded (sym is) tt)
+  settles_one one (Reports from to apart is) = (inr (inr (from, ap step_seen is)), subst IsEnded (sym is) tt)
+
+  settles : (steps : List StepMade) → AreOfSettle steps → asks.AreOf asks.IsOfSettle (map made_seen steps) × AllEnded steps
+  settles [] of = (tt, tt)
+  settles (one ∷ more) of = let first = settles_one one of.0 in let rest = settles more of.1 in ((first.0, rest.0), (first.1, rest.1))
+
+  pub settle_follows : (steps : List StepMade) (old new : World D) → Known old → (w : machine.World) → StandsFor on old w → AreOfSettle steps → MakesSteps on steps old new → Ordered order.Settle steps w new
+  settle_follows steps old new of w stands are makes =
+      let r = settles steps are in
+      let s = several steps r.1 old new of w stands makes in
+      record { next = s.next; stands = s.stands; known = s.known; makes = (r.0, s.makes) }
+
+  -- to tell a map makes no step
+  pub map_follows : (user : List ℕ) (old new : World D) → Known old → (w : machine.World) → StandsFor on old w → new ≡ old → Ordered (order.Maps user) [] w new
+  map_follows user old new of w stands same = record { next = w; stands = subst (λ (v : World D). StandsFor on v w) (sym same) stands; known = subst Known (sym same) of; makes = (refl, refl) }
+
+  -- the steps of a report
+  abbrev AreForms : ℕ → List MadeStep → Type 0
+  AreForms node steps = asks.AreOf (λ one. one.step ≡ steps.Step.Form node) steps
+
+  reports_to : (node : ℕ) (others : List ℕ) (steps : List StepMade) → StepsTo (step.Report node) others steps → AreForms node (map made_seen steps) × AllEnded steps
+  reports_to node [] steps none = (subst (λ (l : List StepMade). AreForms node (map made_seen l)) (sym none) tt, subst AllEnded (sym none) tt)
+  reports_to node (to ∷ others) [] reports = absurd reports
+  reports_to node (to ∷ others) (one ∷ more) (is, ends) = by (has_failed one.result) ends (λ p. reports_to node others more p)
+    where
+      by : (b : Bool) → MatchBool b (more ≡ []) (StepsTo (step.Report node) others more) → (StepsTo (step.Report node) others more → AreForms node (map made_seen more) × AllEnded more)
+          → AreForms node (map made_seen (one ∷ more)) × AllEnded (one ∷ more)
+      by true none rest = ((ap step_seen is, subst (λ (l : List StepMade). AreForms node (map made_seen l)) (sym none) tt), (subst IsEnded (sym is) tt, subst AllEnded (sym none) tt))
+      by false so rest = let r = rest so in ((ap step_seen is, r.0), (subst IsEnded (sym is) tt, r.1))
+
   -- a node that there is not is not there
   none_there : (old : World D) (w : machine.World) → StandsFor on old w → (node : ℕ) (slot : plain.Slot) → of_node (state_of old).lives node ≡ None → plain.slot_at w.slots node ≡ Some slot → ⊥
   none_there old w stands zero slot none here = none-some slot here
@@ -246,6 +285,17 @@ module _ {D : Type 0} (on : View D) (plan : Plan) where
       let r = regroups node steps makes.1.of in
       let s = several steps r.1 old new of w stands makes.1.made in
       record { next = s.next; stands = s.stands; known = s.known; makes = (r.0, s.makes) }
+  order_follows (order.Report node) steps old new of w stands makes =
+      let r = reports_to node (others_in node (members_seen (node_in (state_of old) node)) 16) steps makes.0 in
+      let s = several steps r.1 old new of w stands makes.1 in
+      record {
+        next = s.next;
+        stands = s.stands;
+        known = s.known;
+        makes = (record { are = r.0; else_none = λ down. ap (map made_seen) (reports_none on node steps old (λ up. down (up_there old w stands node up)) makes.0) }, s.makes);
+      }
+  order_follows order.Settle steps old new of w stands makes = absurd makes
+  order_follows (order.Maps user) steps old new of w stands makes = absurd makes
   order_follows (order.Tick seconds) steps old new of w stands makes = let s = one_step (step.Tick seconds) tt steps old new of w stands makes in record { next = s.next; stands = s.stands; known = s.known; makes = s.makes }
   order_follows order.Sum steps old new of w stands (none, same) = record {
     next = w;

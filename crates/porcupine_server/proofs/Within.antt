@@ -7,7 +7,7 @@ use Rattle.std.proofs.lemmas.List.Concat.{flat_map-append}
 use Rattle.mail_model.specs.Plan.{Plan}
 use Rattle.mail_model.specs.Tape.{Order, ClusterOrder, or_else}
 use Rattle.mail_model.specs.Tape.Order.{Open, Say, Feed, Close, GiveUp, Moves, End}
-use Rattle.mail_model.specs.Tape.ClusterOrder.{Crash, Start, Lose, Post, Again, Drop, Flow, Push, Widen, Group, Conclude, Regroup, Tick, Sum}
+use Rattle.mail_model.specs.Tape.ClusterOrder.{Crash, Start, Lose, Post, Again, Drop, Flow, Push, Widen, Group, Conclude, Regroup, Report, Settle, Maps, Tick, Sum}
 use Rattle.mail_model.specs.Lines.{sent_line}
 use Rattle.mail_model.specs.Site.{TapeFault}
 use Rattle.mail_model.specs.Site.TapeFault.{BadLine, NoSuchNode}
@@ -16,7 +16,7 @@ use Rattle.mail_model.proofs.Sessions.{by_number}
 use Rattle.object_model.specs.Lists.{Among}
 use Rattle.object_model.proofs.Lists.{among_either}
 use Rattle.session_model.specs.Events.{ClusterEvent, NodeLife, MayFault, IsEventOf, failed_by_event}
-use Rattle.session_model.specs.Events.ClusterEvent.{WentDown, CameUp, WasLost, WasHeard, WasThrown, WasDropped, HasFlowed, HasSent, HasWidened, HasGrouped, HasFormed, HasTicked, HasSummed, HasFaulted}
+use Rattle.session_model.specs.Events.ClusterEvent.{WentDown, CameUp, WasLost, WasHeard, WasThrown, WasDropped, HasFlowed, HasSent, HasWidened, HasGrouped, HasFormed, HasSettled, WasAbsent, HasMapped, HasTicked, HasSummed, HasFaulted}
 use Rattle.session_model.specs.Sessions.{Session, session_at}
 use Rattle.session_model.specs.Acts.{Act, Deed, Acted, replace, opened_session, greeting_of}
 use Rattle.session_model.specs.Acts.Act.{Opens, Does, Faults, StillWaits, Leaves, Makes, Abandons}
@@ -82,6 +82,9 @@ event_of plan lives order (HasSent count) accepted is n among = absurd among
 event_of plan lives order (HasWidened did) accepted is n among = absurd among
 event_of plan lives order (HasGrouped epoch) accepted is n among = absurd among
 event_of plan lives order (HasFormed epoch members) accepted is n among = absurd among
+event_of plan lives order HasSettled accepted is n among = absurd among
+event_of plan lives order (WasAbsent member) accepted is n among = absurd among
+event_of plan lives order (HasMapped user told) accepted is n among = absurd among
 event_of plan lives order HasTicked accepted is n among = absurd among
 event_of plan lives order (HasSummed sum) accepted is n among = absurd among
 event_of plan lives order (HasFaulted failed) accepted is n (inr none) = absurd none
@@ -104,6 +107,9 @@ event_of plan lives order (HasFaulted failed) accepted is n (inl same) = subst (
     by (Group node) accepted is = subst (IsOfPlan plan) (sym is) (not_so (is_no_node plan node) NoSuchNode (first_none _ _ accepted))
     by (Conclude node) accepted is = subst (IsOfPlan plan) (sym is) (not_so (is_no_node plan node) NoSuchNode (first_none _ _ accepted))
     by (Regroup node) accepted is = may is
+    by (Report node) accepted is = absurd is
+    by Settle accepted is = may is
+    by (Maps user) accepted is = absurd is
     by (Tick seconds) accepted is = absurd is
     by Sum accepted is = absurd is
 

@@ -17,6 +17,7 @@ mod regroups;
 mod replies;
 mod run_lines;
 mod serving;
+mod settles;
 mod store;
 mod three_nodes;
 mod word_forms;

@@ -19,32 +19,34 @@ use Rattle.session_model.specs.Acts.Act.{Does, Faults, StillWaits, Leaves}
 use Rattle.session_model.specs.Acts.Deed.{Hears, IsAnswered, Falls, Closes}
 use Rattle.session_model.specs.Logs.{IsLogged, asked_by, answered_by, asked_in, answered_in}
 use Rattle.session_model.specs.Clocks.{seconds_after}
+use Rattle.session_model.specs.Lives.{life_after}
 use Rattle.session_model.specs.Turns.{Turn, Next, ActsGo, Starts}
 use Rattle.session_model.specs.Turns.Turn.{Hearing, Beginning, Closing, Falling, Asking}
-use Rattle.session_model.specs.Run.{Stop, Made, MayMiss, FirstStep, IsTried, IsBegun, AreHandled, IsLeftOff, IsDriven, IsCutShort}
+use Rattle.session_model.specs.Run.{Stop, Made, MayMiss, refusal, FirstStep, IsTried, IsBegun, AreHandled, IsLeftOff, IsDriven, IsCutShort}
 use Rattle.session_model.specs.Run.Stop.{BehindLine, Denied, SinkFailed, OutOfMemory}
 use Rattle.session_model.specs.Runs.{Shows, DrivenIsShown}
 use Rattle.session_model.specs.Books.{MayBeUnwritten}
 use Rattle.session_model.proofs.Acts.{Kept, Spoken, at_first}
 use Rattle.session_model.proofs.Logs.{Logged, AreLogged, all_logged, none_logged, logged_whole}
 use Rattle.session_model.proofs.Cutting.{Shown, spoken_shown, acts_are_shown}
-use Rattle.session_model.proofs.InOrder.{IsGreeted, AreAcked, none_in_order, all_in_order, whole_acked, cut_acked}
+use Rattle.session_model.proofs.Events.{event_names}
+use Rattle.session_model.proofs.InOrder.{IsWorded, AreAcked, none_in_order, all_in_order, whole_acked, cut_acked}
 
 -- an act that opens and feeds nothing
 record IsQuiet (act : Act) : Type 0 where
   pub opens : opened_by act ≡ []
   pub feeds : (k : ℕ) → fed_by_act k act ≡ []
-  pub greeted : IsGreeted act
+  pub worded : IsWorded act
 
 -- each act after the first of a line is quiet
 next_quiet : (turn next : Turn) (sessions : List Session) (act : Act) → Next turn sessions act next → IsQuiet act
-next_quiet turn next sessions (Does k (Hears one)) is = record { opens = refl; feeds = λ k. refl; greeted = tt }
-next_quiet turn next sessions (Does k (IsAnswered call answer reply)) is = record { opens = refl; feeds = λ k. refl; greeted = tt }
-next_quiet turn next sessions (Does k Falls) is = record { opens = refl; feeds = λ k. refl; greeted = tt }
-next_quiet turn next sessions (Does k Closes) is = record { opens = refl; feeds = λ k. refl; greeted = tt }
-next_quiet turn next sessions (Faults node) is = record { opens = refl; feeds = λ k. refl; greeted = tt }
-next_quiet turn next sessions (StillWaits k) is = record { opens = refl; feeds = λ k. refl; greeted = tt }
-next_quiet turn next sessions (Leaves k user) is = record { opens = refl; feeds = λ k. refl; greeted = tt }
+next_quiet turn next sessions (Does k (Hears one)) is = record { opens = refl; feeds = λ k. refl; worded = tt }
+next_quiet turn next sessions (Does k (IsAnswered call answer reply)) is = record { opens = refl; feeds = λ k. refl; worded = tt }
+next_quiet turn next sessions (Does k Falls) is = record { opens = refl; feeds = λ k. refl; worded = tt }
+next_quiet turn next sessions (Does k Closes) is = record { opens = refl; feeds = λ k. refl; worded = tt }
+next_quiet turn next sessions (Faults node) is = record { opens = refl; feeds = λ k. refl; worded = tt }
+next_quiet turn next sessions (StillWaits k) is = record { opens = refl; feeds = λ k. refl; worded = tt }
+next_quiet turn next sessions (Leaves k user) is = record { opens = refl; feeds = λ k. refl; worded = tt }
 next_quiet (Hearing k onward) next sessions act is = absurd is
 next_quiet (Closing k onward) next sessions act is = absurd is
 next_quiet (Beginning k onward) next sessions act is = absurd is
@@ -56,10 +58,10 @@ record IsMade (plan : Plan) (old : List Session) (acts : List Act) (outputs : Li
   pub done : ActedAll plan old acts outputs new
   pub opens : flat_map opened_by acts ≡ []
   pub feeds : (k : ℕ) → flat_map (fed_by_act k) acts ≡ []
-  pub greeted : All IsGreeted acts
+  pub worded : All IsWorded acts
 
 goes_made : (plan : Plan) (turn last : Turn) (old new : List Session) (acts : List Act) (outputs : List (List Entry)) → ActsGo plan turn old acts outputs last new → IsMade plan old acts outputs new
-goes_made plan turn last old new [] [] (same, is) = record { done = is; opens = refl; feeds = λ k. refl; greeted = All-nil IsGreeted }
+goes_made plan turn last old new [] [] (same, is) = record { done = is; opens = refl; feeds = λ k. refl; worded = All-nil IsWorded }
 goes_made plan turn last old new (act ∷ acts) (entries ∷ outputs) (next, mid, is, acted, goes) =
     let quiet = next_quiet turn next old act is in
     let later = goes_made plan next last mid new acts outputs goes in
@@ -67,16 +69,16 @@ goes_made plan turn last old new (act ∷ acts) (entries ∷ outputs) (next, mid
       done = (mid, acted, later.done);
       opens = ap₂ ◌++◌ quiet.opens later.opens;
       feeds = λ k. ap₂ ◌++◌ (quiet.feeds k) (later.feeds k);
-      greeted = All-cons IsGreeted act acts quiet.greeted later.greeted;
+      worded = All-cons IsWorded act acts quiet.worded later.worded;
     }
 goes_made plan turn last old new [] (entries ∷ outputs) goes = absurd goes
 goes_made plan turn last old new (act ∷ acts) [] goes = absurd goes
 
--- The first act of a line opens what the line does and feeds it, and its greeting is no `250 stored`.
+-- The first act of a line opens what the line does and feeds it, and its words are as they have to be.
 record IsOfOrder (order : Order) (act : Act) : Type 0 where
   pub opens : opened_at (Some order) ≡ opened_by act
   pub feeds : (j : ℕ) → told.fed_by j (Some order) ≡ fed_by_act j act
-  pub greeted : IsGreeted act
+  pub worded : IsWorded act
 
 -- an act is another
 is_of : (order : Order) (act other : Act) → act ≡ other → IsOfOrder order other → IsOfOrder order act
@@ -86,34 +88,36 @@ greets : (protocol : Protocol) (node boot number seconds : ℕ) → pointwise na
 greets Smtp node boot number seconds = refl
 greets Pop node boot number seconds = refl
 
-starts_of : (plan : Plan) (been : List Act) (order : Order) (sessions : List Session) (act : Act) (turn : Turn) → Starts plan been order sessions act turn → IsOfOrder order act
-starts_of plan been (Open protocol node) sessions act turn (boot, up, is, next) =
-    is_of (Open protocol node) act _ is (record { opens = refl; feeds = λ j. refl; greeted = greets protocol node boot (length sessions + 1) (seconds_after been) })
-starts_of plan been (Say k text) sessions act turn (is, next) = is_of (Say k text) act _ is (record { opens = refl; feeds = λ j. refl; greeted = tt })
-starts_of plan been (Feed k octets) sessions act turn (is, next) = is_of (Feed k octets) act _ is (record { opens = refl; feeds = λ j. refl; greeted = tt })
-starts_of plan been (Close k) sessions act turn starts = ⊎_elim
-    (λ now. is_of (Close k) act _ now.0 (record { opens = refl; feeds = λ j. refl; greeted = tt }))
-    (λ first. is_of (Close k) act _ first.0 (record { opens = refl; feeds = λ j. refl; greeted = tt })) starts
-starts_of plan been (GiveUp k) sessions act turn (call, reply, is, next) = is_of (GiveUp k) act _ is (record { opens = refl; feeds = λ j. refl; greeted = tt })
-starts_of plan been (Moves order) sessions act turn (event, may, is, next) = is_of (Moves order) act _ is (record { opens = refl; feeds = λ j. refl; greeted = tt })
-starts_of plan been End sessions act turn starts = absurd starts
+starts_of : (plan : Plan) (been : List Act) (order : Order) (sessions : List Session) (act : Act) (turn : Turn) → refusal plan been sessions order ≡ None → Starts plan been order sessions act turn
+    → IsOfOrder order act
+starts_of plan been (Open protocol node) sessions act turn fits (boot, up, is, next) =
+    is_of (Open protocol node) act _ is (record { opens = refl; feeds = λ j. refl; worded = greets protocol node boot (length sessions + 1) (seconds_after been) })
+starts_of plan been (Say k text) sessions act turn fits (is, next) = is_of (Say k text) act _ is (record { opens = refl; feeds = λ j. refl; worded = tt })
+starts_of plan been (Feed k octets) sessions act turn fits (is, next) = is_of (Feed k octets) act _ is (record { opens = refl; feeds = λ j. refl; worded = tt })
+starts_of plan been (Close k) sessions act turn fits starts = ⊎_elim
+    (λ now. is_of (Close k) act _ now.0 (record { opens = refl; feeds = λ j. refl; worded = tt }))
+    (λ first. is_of (Close k) act _ first.0 (record { opens = refl; feeds = λ j. refl; worded = tt })) starts
+starts_of plan been (GiveUp k) sessions act turn fits (call, reply, is, next) = is_of (GiveUp k) act _ is (record { opens = refl; feeds = λ j. refl; worded = tt })
+starts_of plan been (Moves order) sessions act turn fits (event, may, is, next) =
+    is_of (Moves order) act _ is (record { opens = refl; feeds = λ j. refl; worded = event_names plan (life_after been) order event fits may })
+starts_of plan been End sessions act turn fits starts = absurd starts
 
 -- What the acts of lines made: they were done one after another, and open and feed what the lines do.
 pub record AreMade (plan : Plan) (old : List Session) (lines : List (List ℕ)) (acts : List Act) (outputs : List (List Entry)) (new : List Session) : Type 0 where
   pub done : ActedAll plan old acts outputs new
   pub acts_of : AreActsOf lines acts
-  pub greeted : All IsGreeted acts
+  pub worded : All IsWorded acts
 
 -- a line that was begun
 pub begun_made : (plan : Plan) (so_far : List Act) (old new : List Session) (line : List ℕ) (acts : List Act) (outputs : List (List Entry)) (turn : Turn)
     → IsBegun plan so_far old line acts outputs turn new → AreMade plan old (line ∷ []) acts outputs new
 begun_made plan so_far old new line acts outputs turn begun =
-    let of = starts_of plan so_far begun.order old begun.first begun.next begun.starts in
+    let of = starts_of plan so_far begun.order old begun.first begun.next begun.accepted begun.starts in
     let later = goes_made plan begun.next turn begun.mid new begun.more begun.others begun.goes in
     subst (λ (a : List Act). AreMade plan old (line ∷ []) a outputs new) (sym begun.acts_are)
     (subst (λ (o : List (List Entry)). AreMade plan old (line ∷ []) (begun.first ∷ begun.more) o new) (sym begun.outputs_are) (record {
       done = (begun.mid, begun.acted, later.done);
-      greeted = All-cons IsGreeted begun.first begun.more of.greeted later.greeted;
+      worded = All-cons IsWorded begun.first begun.more of.worded later.worded;
       acts_of = record {
         opens = append-nil (opened_at (tape_order line)) ∙ ap opened_at begun.spelled ∙ of.opens
             ∙ sym (append-nil (opened_by begun.first)) ∙ ap (λ l. opened_by begun.first ++ l) (sym later.opens);
@@ -142,12 +146,12 @@ made_both : (plan : Plan) (old mid new : List Session) (lines more : List (List 
 made_both plan old mid new lines more acts others outputs says first later = record {
   done = acted_both plan old mid new acts others outputs says first.done later.done;
   acts_of = acts_both lines more acts others first.acts_of later.acts_of;
-  greeted = All-append IsGreeted acts others first.greeted later.greeted;
+  worded = All-append IsWorded acts others first.worded later.worded;
 }
 
 -- nothing was made
 none_made : (plan : Plan) (old new : List Session) → new ≡ old → AreMade plan old [] [] [] new
-none_made plan old new is = record { done = is; acts_of = record { opens = refl; feeds = λ k. refl }; greeted = All-nil IsGreeted }
+none_made plan old new is = record { done = is; acts_of = record { opens = refl; feeds = λ k. refl }; worded = All-nil IsWorded }
 
 -- all lines that were handled
 pub handled_made : (plan : Plan) (so_far : List Act) (old new : List Session) (lines : List (List ℕ)) (by_line : List (List Act)) (outputs : List (List (List Entry)))
@@ -248,7 +252,7 @@ part_wrote plan OutOfMemory acts entries missing last may wrote = inr wrote
 -- What a run did and wrote.
 pub record IsWritten (plan : Plan) (stop : Stop) (lines : List (List ℕ)) (acts : List Act) (entries : List Entry) (last : List Session) : Type 0 where
   pub acts_of : AreActsOf lines acts
-  pub greeted : All IsGreeted acts
+  pub worded : All IsWorded acts
   pub wrote : Wrote plan stop acts entries last
 
 -- a line whose first step came to nothing opens and feeds nothing
@@ -271,7 +275,7 @@ tried_made plan so_far stop old new line entries extra tried is =
         opens = append-nil (opened_at (tape_order line)) ∙ ap opened_at tried.spelled ∙ none.0;
         feeds = λ k. append-nil (told.fed_by k (tape_order line)) ∙ ap (told.fed_by k) tried.spelled ∙ none.1 k;
       };
-      greeted = All-nil IsGreeted;
+      worded = All-nil IsWorded;
     }
 
 -- Lines that were handled, and after them none, or one that was left off.
@@ -283,7 +287,7 @@ module _ (plan : Plan) (stop : Stop) (so_far : List Act) (lines : List (List ℕ
       subst (λ (l : List (List ℕ)). IsWritten plan stop l (acts ++ []) (all_of outputs ++ tail) last) (sym (append-nil lines))
       (subst (λ (a : List Act). IsWritten plan stop lines a (all_of outputs ++ tail) last) (sym (append-nil acts)) (record {
         acts_of = made.acts_of;
-        greeted = made.greeted;
+        worded = made.worded;
         wrote = all_wrote plan stop acts (all_of outputs ++ tail) last (record {
           outputs = outputs;
           done = subst (λ (s : List Session). ActedAll plan [] acts outputs s) (sym is) made.done;
@@ -294,7 +298,7 @@ module _ (plan : Plan) (stop : Stop) (so_far : List Act) (lines : List (List ℕ
       let both = made_both plan [] mid last lines (line ∷ []) acts [] outputs [] made (tried_made plan so_far stop mid last line tail extra tried is) in
       record {
         acts_of = both.acts_of;
-        greeted = both.greeted;
+        worded = both.worded;
         wrote = all_wrote plan stop (acts ++ []) (all_of outputs ++ tail) last (record {
           outputs = outputs ++ [];
           done = both.done;
@@ -310,7 +314,7 @@ module _ (plan : Plan) (stop : Stop) (so_far : List Act) (lines : List (List ℕ
       let same : acts ++ more ≡ acts ++ (more ++ []) = ap (λ (l : List Act). acts ++ l) (sym (append-nil more)) in
       subst (λ (a : List Act). IsWritten plan stop (lines ++ line ∷ []) a (all_of outputs ++ tail) last) same (record {
         acts_of = both.acts_of;
-        greeted = both.greeted;
+        worded = both.worded;
         wrote = part_wrote plan stop (acts ++ more) (all_of outputs ++ tail) cut.missing last cut.may (record {
           before = outputs ++ cut.before;
           says = cut.says;
@@ -368,27 +372,27 @@ driven_is_shown plan stop handled left acts others made entries last driven =
     let written = driven_written plan stop handled left acts others made entries last driven in
     wrote_shown plan (handled ++ left) (flat_map (λ a. a) (acts ++ others)) entries last written.acts_of stop written.wrote
 
--- two parts of acts that greet
-all_parts : (a b : List Act) → All IsGreeted (a ++ b) → All IsGreeted a × All IsGreeted b
-all_parts [] b all = (All-nil IsGreeted, all)
+-- two parts of acts whose words are so
+pub all_parts : (a b : List Act) → All IsWorded (a ++ b) → All IsWorded a × All IsWorded b
+all_parts [] b all = (All-nil IsWorded, all)
 all_parts (act ∷ a) b all =
-    let later = all_parts a b (All-tail IsGreeted act (a ++ b) all) in (All-cons IsGreeted act a (All-head IsGreeted act (a ++ b) all) later.0, later.1)
+    let later = all_parts a b (All-tail IsWorded act (a ++ b) all) in (All-cons IsWorded act a (All-head IsWorded act (a ++ b) all) later.0, later.1)
 
 -- And it tells which messages were acknowledged.
-module _ (plan : Plan) (kinds : List (Protocol × ℕ)) (acts : List Act) (entries : List Entry) (last : List Session) (greeted : All IsGreeted acts) (are : kinds ≡ flat_map opened_by acts) where
+module _ (plan : Plan) (kinds : List (Protocol × ℕ)) (acts : List Act) (entries : List Entry) (last : List Session) (worded : All IsWorded acts) (are : kinds ≡ flat_map opened_by acts) where
   all_acked : WroteAll plan acts entries last → AreAcked kinds acts entries []
   all_acked wrote =
       subst (λ (e : List Entry). AreAcked kinds acts e []) (sym wrote.written) (whole_acked plan kinds acts (all_of wrote.outputs) last
-      (all_in_order plan kinds [] [] acts [] [] last wrote.outputs (none_in_order plan kinds) greeted (are ∙ sym (append-nil (flat_map opened_by acts))) wrote.done))
+      (all_in_order plan kinds [] [] acts [] [] last wrote.outputs (none_in_order plan kinds) worded (are ∙ sym (append-nil (flat_map opened_by acts))) wrote.done))
 
   part_acked : WrotePart plan acts entries last → (unwritten : List Ack) × AreAcked kinds acts entries unwritten
   part_acked wrote =
       let end = wrote.end in
-      let both = all_parts end.been (end.act ∷ []) (subst (All IsGreeted) end.are greeted) in
+      let both = all_parts end.been (end.act ∷ []) (subst (All IsWorded) end.are worded) in
       let opens : kinds ≡ flat_map opened_by end.been ++ flat_map opened_by (end.act ∷ []) = are ∙ ap (flat_map opened_by) end.are ∙ flat_map-append opened_by end.been (end.act ∷ []) in
       let before = all_in_order plan kinds (flat_map opened_by (end.act ∷ [])) [] end.been [] [] end.mid wrote.before (none_in_order plan kinds) both.0 opens end.done in
       let acked = cut_acked plan kinds (flat_map opened_by (end.act ∷ [])) end.been (all_of wrote.before) wrote.says wrote.front wrote.missing end.mid last end.act before
-      (All-head IsGreeted end.act [] both.1) opens end.acted wrote.cut in (
+      (All-head IsWorded end.act [] both.1) opens end.acted wrote.cut in (
         acked.0,
         subst (λ (e : List Entry). AreAcked kinds acts e acked.0) (sym wrote.written)
             (subst (λ (a : List Act). AreAcked kinds a (all_of wrote.before ++ wrote.front) acked.0) (sym end.are) acked.1),

@@ -35,7 +35,7 @@ use Rattle.session_model.specs.Acts.Act.{Opens, Does, Faults, StillWaits, Leaves
 use Rattle.session_model.specs.Acts.Deed.{IsFed, Hears, IsAnswered, IsGivenUp, Falls, Closes}
 use Rattle.session_model.specs.Logs.{answered_by, answered_in, answers_of}
 use Rattle.session_model.specs.Books.{AtMostOne, acks_by}
-use Rattle.session_model.proofs.Events.{event_says_none, event_stores_none}
+use Rattle.session_model.proofs.Events.{NamesUser, event_says_none, event_stores_none}
 use Rattle.session_model.specs.Spoken.{Speaks}
 use Rattle.session_model.proofs.Did.{did_speaks, did_kind}
 use Rattle.session_model.proofs.Acts.{Kept, Spoken, kind_of, at_first, act_push, acted_keeps, closing_is, does_other}
@@ -49,10 +49,11 @@ use Rattle.session_model.proofs.Asking.{asks_as_told}
 abbrev pub acks_in : List Act → List Ack
 acks_in acts = flat_map acks_by (flat_map answered_by acts)
 
--- the greeting of a session is no `250 stored`
-abbrev pub IsGreeted : Act → Type 0
-IsGreeted (Opens protocol node greeting) = pointwise nat_eq greeting stored_text ≡ false
-IsGreeted act = ⊤
+-- the greeting of a session is no `250 stored`, and the user whose map is told has a name
+abbrev pub IsWorded : Act → Type 0
+IsWorded (Opens protocol node greeting) = pointwise nat_eq greeting stored_text ≡ false
+IsWorded (Makes order event) = NamesUser event
+IsWorded act = ⊤
 
 -- so often this number
 abbrev times : ℕ → ℕ → List ℕ
@@ -195,15 +196,15 @@ module _ (plan : Plan) (kinds : List (Protocol × ℕ)) (acts : List Act) (entri
           ∙ sym (stored_read kinds k said (ap is_taking kind ∙ ap (λ (p : Protocol). is_taking (Some (p, before.node))) is))
 
   -- whatever act
-  acted_order : (act : Act) (more : List Entry) (new : List Session) (others : List (Protocol × ℕ)) → IsGreeted act → Acted plan old act more new
+  acted_order : (act : Act) (more : List Entry) (new : List Session) (others : List (Protocol × ℕ)) → IsWorded act → Acted plan old act more new
       → kinds ≡ flat_map opened_by acts ++ others → map (λ (ack : Ack). ack.session) (flat_map acks_by (answered_by act)) ≡ stored_sessions kinds more
-  acted_order (Opens protocol node greeting) more new others greeted (says, is) all = sym (ap (stored_sessions kinds) says ∙ stored_not kinds (length old + 1) greeting greeted)
-  acted_order (Faults node) more new others greeted (says, is) all = sym (ap (stored_sessions kinds) says)
-  acted_order (StillWaits k) more new others greeted (says, is) all = sym (ap (stored_sessions kinds) says)
-  acted_order (Leaves k user) more new others greeted (says, is) all = sym (ap (stored_sessions kinds) says)
-  acted_order (Makes order event) more new others greeted (says, is) all = sym (ap (stored_sessions kinds) says ∙ event_stores_none kinds event)
-  acted_order (Abandons k) more new others greeted (says, is) all = sym (ap (stored_sessions kinds) says)
-  acted_order (Does k deed) more new others greeted (before, behind, said, at, did, says, is) all =
+  acted_order (Opens protocol node greeting) more new others worded (says, is) all = sym (ap (stored_sessions kinds) says ∙ stored_not kinds (length old + 1) greeting worded)
+  acted_order (Faults node) more new others worded (says, is) all = sym (ap (stored_sessions kinds) says)
+  acted_order (StillWaits k) more new others worded (says, is) all = sym (ap (stored_sessions kinds) says)
+  acted_order (Leaves k user) more new others worded (says, is) all = sym (ap (stored_sessions kinds) says)
+  acted_order (Makes order event) more new others worded (says, is) all = sym (ap (stored_sessions kinds) says ∙ event_stores_none kinds event)
+  acted_order (Abandons k) more new others worded (says, is) all = sym (ap (stored_sessions kinds) says)
+  acted_order (Does k deed) more new others worded (before, behind, said, at, did, says, is) all =
       let kind = kind_there kinds others old k before (all ∙ ap (λ (l : List (Protocol × ℕ)). l ++ others) kept.kinds) at in
       deed_order k deed before behind said at did kind (did_kind plan said before behind deed did).0
       ∙ sym (ap (stored_sessions kinds) says ∙ stored_both kinds (said_lines k said) (closing k deed behind.standing)
@@ -226,12 +227,12 @@ greeted_both [] b first later = later refl
 greeted_both (line ∷ a) b first later = first
 
 module _ (plan : Plan) (acts : List Act) (entries : List Entry) (old : List Session) (kept : Kept plan acts entries old) where
-  acted_greets : (act : Act) (more : List Entry) (new : List Session) → IsGreeted act → Acted plan old act more new → ((k : ℕ) → Greeted (lines_to k entries))
+  acted_greets : (act : Act) (more : List Entry) (new : List Session) → IsWorded act → Acted plan old act more new → ((k : ℕ) → Greeted (lines_to k entries))
       → (k : ℕ) → Greeted (lines_to k (entries ++ more))
-  acted_greets act more new greeted acted before k = subst Greeted (sym (shown.lines_both k entries more))
-      (greeted_both (lines_to k entries) (lines_to k more) (before k) (λ none. by_act act greeted acted none))
+  acted_greets act more new worded acted before k = subst Greeted (sym (shown.lines_both k entries more))
+      (greeted_both (lines_to k entries) (lines_to k more) (before k) (λ none. by_act act worded acted none))
     where
-      by_act : (act : Act) → IsGreeted act → Acted plan old act more new → lines_to k entries ≡ [] → Greeted (lines_to k more)
+      by_act : (act : Act) → IsWorded act → Acted plan old act more new → lines_to k entries ≡ [] → Greeted (lines_to k more)
       by_act (Opens protocol node greeting) greets (says, is) none = subst (λ (e : List Entry). Greeted (lines_to k e)) (sym says) (by_test (nat_eq (length old + 1) k))
         where
           by_test : (b : Bool) → Greeted (if b then greeting ∷ [] else [])
@@ -264,32 +265,32 @@ acks_push acts act = ap (flat_map acks_by) (act_push answered_by acts act) ∙ f
 
 -- one act more
 one_in_order : (plan : Plan) (kinds others : List (Protocol × ℕ)) (acts : List Act) (entries more : List Entry) (old new : List Session) (act : Act) → IsInOrder plan kinds acts entries old
-    → IsGreeted act → kinds ≡ flat_map opened_by acts ++ others → Acted plan old act more new → IsInOrder plan kinds (acts ++ act ∷ []) (entries ++ more) new
-one_in_order plan kinds others acts entries more old new act before greeted all acted = record {
+    → IsWorded act → kinds ≡ flat_map opened_by acts ++ others → Acted plan old act more new → IsInOrder plan kinds (acts ++ act ∷ []) (entries ++ more) new
+one_in_order plan kinds others acts entries more old new act before worded all acted = record {
   kept = acted_keeps plan acts entries old before.kept act more new acted;
   lines_of = ap (map (λ (ack : Ack). ack.session)) (acks_push acts act) ∙ map-append (λ (ack : Ack). ack.session) (acks_in acts) (flat_map acks_by (answered_by act))
-      ∙ ap₂ ◌++◌ before.lines_of (acted_order plan kinds acts entries old before.kept act more new others greeted acted all) ∙ sym (stored_both kinds entries more);
-  greeted = acted_greets plan acts entries old before.kept act more new greeted acted before.greeted;
+      ∙ ap₂ ◌++◌ before.lines_of (acted_order plan kinds acts entries old before.kept act more new others worded acted all) ∙ sym (stored_both kinds entries more);
+  greeted = acted_greets plan acts entries old before.kept act more new worded acted before.greeted;
 }
 
 -- all acts
 pub all_in_order : (plan : Plan) (kinds others : List (Protocol × ℕ)) (been acts : List Act) (entries : List Entry) (old last : List Session) (outputs : List (List Entry))
-    → IsInOrder plan kinds been entries old → All IsGreeted acts → kinds ≡ flat_map opened_by (been ++ acts) ++ others → ActedAll plan old acts outputs last
+    → IsInOrder plan kinds been entries old → All IsWorded acts → kinds ≡ flat_map opened_by (been ++ acts) ++ others → ActedAll plan old acts outputs last
     → IsInOrder plan kinds (been ++ acts) (entries ++ all_of outputs) last
-all_in_order plan kinds others been [] entries old last [] before greeted all done =
+all_in_order plan kinds others been [] entries old last [] before worded all done =
     subst (IsInOrder plan kinds (been ++ []) (entries ++ [])) (sym done)
     (subst (λ (l : List Act). IsInOrder plan kinds l (entries ++ []) old) (sym (append-nil been))
     (subst (λ (l : List Entry). IsInOrder plan kinds been l old) (sym (append-nil entries)) before))
-all_in_order plan kinds others been (act ∷ acts) entries old last (more ∷ outputs) before greeted all (mid, acted, done) =
+all_in_order plan kinds others been (act ∷ acts) entries old last (more ∷ outputs) before worded all (mid, acted, done) =
     subst (λ (l : List Act). IsInOrder plan kinds l (entries ++ all_of (more ∷ outputs)) last) (append_assoc been (act ∷ []) acts)
     (subst (λ (l : List Entry). IsInOrder plan kinds ((been ++ act ∷ []) ++ acts) l last) (append_assoc entries more (all_of outputs))
     (all_in_order plan kinds others (been ++ act ∷ []) acts (entries ++ more) mid last outputs
-    (one_in_order plan kinds (flat_map opened_by (act ∷ acts) ++ others) been entries more old mid act before (All-head IsGreeted act acts greeted)
+    (one_in_order plan kinds (flat_map opened_by (act ∷ acts) ++ others) been entries more old mid act before (All-head IsWorded act acts worded)
     (all ∙ ap (λ (l : List (Protocol × ℕ)). l ++ others) (flat_map-append opened_by been (act ∷ acts))
     ∙ append_assoc (flat_map opened_by been) (flat_map opened_by (act ∷ acts)) others) acted)
-    (All-tail IsGreeted act acts greeted) (all ∙ ap (λ (l : List Act). flat_map opened_by l ++ others) (sym (append_assoc been (act ∷ []) acts))) done))
-all_in_order plan kinds others been (act ∷ acts) entries old last [] before greeted all done = absurd done
-all_in_order plan kinds others been [] entries old last (more ∷ outputs) before greeted all done = absurd done
+    (All-tail IsWorded act acts worded) (all ∙ ap (λ (l : List Act). flat_map opened_by l ++ others) (sym (append_assoc been (act ∷ []) acts))) done))
+all_in_order plan kinds others been (act ∷ acts) entries old last [] before worded all done = absurd done
+all_in_order plan kinds others been [] entries old last (more ∷ outputs) before worded all done = absurd done
 
 -- Where the transcript may be cut: the messages whose line was written, and one at most whose line was not.
 pub record AreAcked (kinds : List (Protocol × ℕ)) (acts : List Act) (entries : List Entry) (unwritten : List Ack) : Type 0 where
@@ -329,19 +330,19 @@ one_acked (Abandons k) = inl refl
 
 -- what the last act writes is cut
 pub cut_acked : (plan : Plan) (kinds others : List (Protocol × ℕ)) (acts : List Act) (entries says front missing : List Entry) (old new : List Session) (act : Act)
-    → IsInOrder plan kinds acts entries old → IsGreeted act → kinds ≡ flat_map opened_by acts ++ others → Acted plan old act says new → says ≡ front ++ missing
+    → IsInOrder plan kinds acts entries old → IsWorded act → kinds ≡ flat_map opened_by acts ++ others → Acted plan old act says new → says ≡ front ++ missing
     → (unwritten : List Ack) × AreAcked kinds (acts ++ act ∷ []) (entries ++ front) unwritten
-cut_acked plan kinds others acts entries says front missing old new act before greeted all acted cut = ⊎_elim none one (one_acked act)
+cut_acked plan kinds others acts entries says front missing old new act before worded all acted cut = ⊎_elim none one (one_acked act)
   where
     now : IsInOrder plan kinds (acts ++ act ∷ []) (entries ++ says) new
-    now = one_in_order plan kinds others acts entries says old new act before greeted all acted
+    now = one_in_order plan kinds others acts entries says old new act before worded all acted
 
     first_lines : (k : ℕ) → Greeted (lines_to k (entries ++ front))
     first_lines k = greeted_front (lines_to k (entries ++ front)) (lines_to k missing) (subst Greeted
         (ap (lines_to k) (ap (λ (l : List Entry). entries ++ l) cut ∙ sym (append_assoc entries front missing)) ∙ shown.lines_both k (entries ++ front) missing) (now.greeted k))
 
     own : map (λ (ack : Ack). ack.session) (flat_map acks_by (answered_by act)) ≡ stored_sessions kinds front ++ stored_sessions kinds missing
-    own = acted_order plan kinds acts entries old before.kept act says new others greeted acted all ∙ ap (stored_sessions kinds) cut ∙ stored_both kinds front missing
+    own = acted_order plan kinds acts entries old before.kept act says new others worded acted all ∙ ap (stored_sessions kinds) cut ∙ stored_both kinds front missing
 
     none : flat_map acks_by (answered_by act) ≡ [] → (unwritten : List Ack) × AreAcked kinds (acts ++ act ∷ []) (entries ++ front) unwritten
     none is = (

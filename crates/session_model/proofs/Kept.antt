@@ -382,7 +382,7 @@ owed_is_kept plan tells stop handled left acts others made entries ending last s
         (law.1, law.2)
 
     all : (unwritten : List Ack) × MayBeUnwritten stop unwritten × AreAcked (opened lines) done entries unwritten
-    all = wrote_acked plan (opened lines) done entries last written.greeted written.acts_of.opens stop written.wrote
+    all = wrote_acked plan (opened lines) done entries last written.worded written.acts_of.opens stop written.wrote
 
     acked : AreAcked (opened lines) done (entries ++ ending) all.0
     acked = record {

@@ -5,12 +5,12 @@ use Rattle.std.proofs.lemmas.Bool.{eqb-true}
 use Rattle.mail_model.specs.Plan.{Plan}
 use Rattle.mail_model.specs.Tape.{Order, ClusterOrder}
 use Rattle.mail_model.specs.Tape.Order.{Open, Say, Feed, Close, GiveUp, Moves, End}
-use Rattle.mail_model.specs.Tape.ClusterOrder.{Crash, Start, Lose, Post, Again, Drop, Flow, Push, Widen, Group, Conclude, Regroup, Tick, Sum}
+use Rattle.mail_model.specs.Tape.ClusterOrder.{Crash, Start, Lose, Post, Again, Drop, Flow, Push, Widen, Group, Conclude, Regroup, Report, Settle, Maps, Tick, Sum}
 use Rattle.mail_model.specs.Transcript.{Entry, all_of}
 use Rattle.mail_model.specs.Stored.{IsLost}
 use Rattle.mail_model.proofs.ShownCuts.{front_of_one}
 use Rattle.session_model.specs.Events.{ClusterEvent, NodeLife, IsEventOf, turned, life_by_event, lost_event}
-use Rattle.session_model.specs.Events.ClusterEvent.{WentDown, CameUp, WasLost, WasHeard, WasThrown, WasDropped, HasFlowed, HasSent, HasWidened, HasGrouped, HasFormed, HasTicked, HasSummed, HasFaulted}
+use Rattle.session_model.specs.Events.ClusterEvent.{WentDown, CameUp, WasLost, WasHeard, WasThrown, WasDropped, HasFlowed, HasSent, HasWidened, HasGrouped, HasFormed, HasSettled, WasAbsent, HasMapped, HasTicked, HasSummed, HasFaulted}
 use Rattle.session_model.specs.Events.NodeLife.{Up, Down, Lost}
 use Rattle.session_model.specs.Sessions.{Session}
 use Rattle.session_model.specs.Acts.{Act, Acted, ActedAll}
@@ -67,6 +67,9 @@ event_lost order (HasSent count) node life is = inl is
 event_lost order (HasWidened did) node life is = inl is
 event_lost order (HasGrouped epoch) node life is = inl is
 event_lost order (HasFormed epoch members) node life is = inl is
+event_lost order HasSettled node life is = inl is
+event_lost order (WasAbsent member) node life is = inl is
+event_lost order (HasMapped user told) node life is = inl is
 event_lost order HasTicked node life is = inl is
 event_lost order (HasSummed sum) node life is = inl is
 
@@ -135,6 +138,9 @@ event_loses plan lives (Widen at user id to) node is = absurd is
 event_loses plan lives (Group other) node is = absurd is
 event_loses plan lives (Conclude other) node is = absurd is
 event_loses plan lives (Regroup other) node is = absurd is
+event_loses plan lives (Report other) node is = absurd is
+event_loses plan lives Settle node is = absurd is
+event_loses plan lives (Maps user) node is = absurd is
 event_loses plan lives (Tick seconds) node is = absurd is
 event_loses plan lives Sum node is = absurd is
 

@@ -10,7 +10,7 @@ use Rattle.mail_model.specs.Lines.{sent_line}
 use Rattle.mail_model.specs.Transcript.{Entry}
 use Rattle.mail_model.proofs.Sessions.{by_number}
 use Rattle.session_model.specs.Events.{ClusterEvent, NodeLife, IsUp, turned, life_by_event}
-use Rattle.session_model.specs.Events.ClusterEvent.{WentDown, CameUp, WasLost, WasHeard, WasThrown, WasDropped, HasFlowed, HasSent, HasWidened, HasGrouped, HasFormed, HasTicked, HasSummed, HasFaulted}
+use Rattle.session_model.specs.Events.ClusterEvent.{WentDown, CameUp, WasLost, WasHeard, WasThrown, WasDropped, HasFlowed, HasSent, HasWidened, HasGrouped, HasFormed, HasSettled, WasAbsent, HasMapped, HasTicked, HasSummed, HasFaulted}
 use Rattle.session_model.specs.Events.NodeLife.{Up, Down, Lost}
 use Rattle.session_model.specs.Talk.{IsOn}
 use Rattle.session_model.specs.Sessions.{Session, session_at}
@@ -171,6 +171,9 @@ event_stands lives sessions (HasSent count) stand = λ j session at on. inl (sta
 event_stands lives sessions (HasWidened did) stand = λ j session at on. inl (stand j session at on)
 event_stands lives sessions (HasGrouped epoch) stand = λ j session at on. inl (stand j session at on)
 event_stands lives sessions (HasFormed epoch members) stand = λ j session at on. inl (stand j session at on)
+event_stands lives sessions HasSettled stand = λ j session at on. inl (stand j session at on)
+event_stands lives sessions (WasAbsent member) stand = λ j session at on. inl (stand j session at on)
+event_stands lives sessions (HasMapped user told) stand = λ j session at on. inl (stand j session at on)
 event_stands lives sessions HasTicked stand = λ j session at on. inl (stand j session at on)
 event_stands lives sessions (HasSummed sum) stand = λ j session at on. inl (stand j session at on)
 

@@ -1,16 +1,17 @@
 -- What comes of a run line that moves the cluster itself, what the transcript says of it, and how it leaves the nodes.
-use Rattle.std.specs.Prelude.{◌≡◌, ℕ, ◌<◌, ◌≤◌, Bool, true, false, nat_eq, List, [], ◌∷◌, ◌++◌, flat_map, ⊤, if◌then◌else◌, codes}
+use Rattle.std.specs.Prelude.{◌≡◌, ℕ, ◌<◌, ◌≤◌, Bool, true, false, nat_eq, List, [], ◌∷◌, ◌++◌, flat_map, ⊤, Option, Some, None, if◌then◌else◌, codes}
 use Rattle.std.specs.Fmt.{decimal}
 use Rattle.mail_model.specs.Identity.{EpochId}
 use Rattle.mail_model.specs.Plan.{Plan}
 use Rattle.mail_model.specs.Tape.{ClusterOrder}
-use Rattle.mail_model.specs.Tape.ClusterOrder.{Crash, Start, Lose, Post, Again, Drop, Flow, Push, Widen, Group, Conclude, Regroup, Tick, Sum}
+use Rattle.mail_model.specs.Tape.ClusterOrder.{Crash, Start, Lose, Post, Again, Drop, Flow, Push, Widen, Group, Conclude, Regroup, Report, Settle, Maps, Tick, Sum}
 use Rattle.session_model.specs.Sums.{BookSum}
 use Rattle.mail_model.specs.Transcript.{Entry, Why, why_word}
 use Rattle.mail_model.specs.Transcript.Entry.{Event}
 
 -- A node went down, came up in this boot, or is lost for good; a letter was heard, thrown, or dropped; all letters were posted; a node sent so many letters; a
--- copy got a target more, or did not; a group was opened for this epoch, or the epoch was formed with these members; the clock was set; the entries of the book were
+-- copy got a target more, or did not; a group was opened for this epoch, or the epoch was formed with these members; the epoch has settled, or could not since this
+-- member of it is not live; a manager names these nodes, in rising order, as those with mail of a user, or nobody does; the clock was set; the entries of the book were
 -- counted; or the disk of a node failed.
 pub data ClusterEvent : Type 0 where
   WentDown : (node : ℕ) → ClusterEvent
@@ -24,6 +25,9 @@ pub data ClusterEvent : Type 0 where
   HasWidened : (did : Bool) → ClusterEvent
   HasGrouped : (epoch : EpochId) → ClusterEvent
   HasFormed : (epoch : EpochId) (members : List ℕ) → ClusterEvent
+  HasSettled : ClusterEvent
+  WasAbsent : (member : ℕ) → ClusterEvent
+  HasMapped : (user : List ℕ) (told : Option (ℕ × List ℕ)) → ClusterEvent
   HasTicked : ClusterEvent
   HasSummed : (sum : BookSum) → ClusterEvent
   HasFaulted : (node : ℕ) → ClusterEvent
@@ -53,6 +57,11 @@ node_words nodes = flat_map (λ (node : ℕ). codes " " ++ decimal node) nodes
 abbrev pub formed_text : EpochId → List ℕ → List ℕ
 formed_text epoch members = codes "epoch " ++ epoch_text epoch ++ codes " members" ++ node_words members
 
+-- which manager names which nodes as those with mail of the user
+abbrev pub maps_text : List ℕ → Option (ℕ × List ℕ) → List ℕ
+maps_text user None = codes "maps " ++ user ++ codes " none"
+maps_text user (Some told) = codes "maps " ++ user ++ codes " at " ++ decimal told.0 ++ codes ":" ++ node_words told.1
+
 -- how many entries of the book there are
 abbrev pub sum_text : BookSum → List ℕ
 sum_text sum =
@@ -71,6 +80,9 @@ event_entries (HasSent count) = Event (codes "sent " ++ decimal count) ∷ []
 event_entries (HasWidened did) = Event (widened_text did) ∷ []
 event_entries (HasGrouped epoch) = Event (codes "group " ++ epoch_text epoch) ∷ []
 event_entries (HasFormed epoch members) = Event (formed_text epoch members) ∷ []
+event_entries HasSettled = Event (codes "settled") ∷ []
+event_entries (WasAbsent member) = Event (codes "not-all-up " ++ decimal member) ∷ []
+event_entries (HasMapped user told) = Event (maps_text user told) ∷ []
 event_entries HasTicked = []
 event_entries (HasSummed sum) = Event (sum_text sum) ∷ []
 event_entries (HasFaulted node) = fault_event node ∷ []
@@ -111,7 +123,8 @@ pub record MayFault (plan : Plan) (lives : ℕ → NodeLife) (node : ℕ) : Type
   pub up : IsUp (lives node)
 
 -- What can come of an order to nodes that are so. A letter may be heard or thrown, and the disk of its receiver may fail in that; a node that is not up sends
--- nothing; and a node that starts, pushes, widens or forms an epoch may itself fail. While all letters of a group are posted any node that is up may.
+-- nothing; and a node that starts, pushes, widens or forms an epoch may itself fail. While all letters of a group are posted, or the cluster settles, any node that
+-- is up may. A report reads no disk.
 abbrev pub IsEventOf : Plan → (ℕ → NodeLife) → ClusterOrder → ClusterEvent → Type 0
 IsEventOf plan lives (Crash node) (WentDown n) = n ≡ node
 IsEventOf plan lives (Start node) (CameUp n boot) = n ≡ node
@@ -136,6 +149,11 @@ IsEventOf plan lives (Conclude node) (HasFormed epoch members) = ⊤
 IsEventOf plan lives (Conclude node) (HasFaulted n) = n ≡ node
 IsEventOf plan lives (Regroup node) (HasFormed epoch members) = ⊤
 IsEventOf plan lives (Regroup node) (HasFaulted n) = MayFault plan lives n
+IsEventOf plan lives (Report node) (HasSent count) = (IsUp (lives node) → ⊥) → count ≡ 0
+IsEventOf plan lives Settle HasSettled = ⊤
+IsEventOf plan lives Settle (WasAbsent member) = ⊤
+IsEventOf plan lives Settle (HasFaulted n) = MayFault plan lives n
+IsEventOf plan lives (Maps user) (HasMapped name told) = name ≡ user
 IsEventOf plan lives (Tick seconds) HasTicked = ⊤
 IsEventOf plan lives Sum (HasSummed sum) = ⊤
 IsEventOf plan lives order event = ⊥

@@ -4,7 +4,7 @@ use Rattle.mail_model.specs.Plan.{Plan, is_user}
 use Rattle.mail_model.specs.Tape.{Protocol, Order, ClusterOrder, tape_order, or_else}
 use Rattle.mail_model.specs.Tape.Protocol.{Smtp, Pop}
 use Rattle.mail_model.specs.Tape.Order.{Open, Say, Feed, Close, GiveUp, End}
-use Rattle.mail_model.specs.Tape.ClusterOrder.{Crash, Start, Lose, Post, Again, Drop, Flow, Push, Widen, Group, Conclude, Regroup, Tick, Sum}
+use Rattle.mail_model.specs.Tape.ClusterOrder.{Crash, Start, Lose, Post, Again, Drop, Flow, Push, Widen, Group, Conclude, Regroup, Report, Settle, Maps, Tick, Sum}
 use Rattle.mail_model.specs.Transcript.{Entry}
 use Rattle.mail_model.specs.Transcript.{all_of}
 use Rattle.mail_model.specs.Site.{TapeFault}
@@ -119,6 +119,9 @@ cluster_refusal plan lives (Widen node user id to) =
 cluster_refusal plan lives (Group node) = or_else (fault_if (is_no_node plan node) NoSuchNode) (work_fault (lives node))
 cluster_refusal plan lives (Conclude node) = or_else (fault_if (is_no_node plan node) NoSuchNode) (work_fault (lives node))
 cluster_refusal plan lives (Regroup node) = or_else (fault_if (is_no_node plan node) NoSuchNode) (work_fault (lives node))
+cluster_refusal plan lives (Report node) = fault_if (is_no_node plan node) NoSuchNode
+cluster_refusal plan lives Settle = None
+cluster_refusal plan lives (Maps user) = fault_if (not (is_user plan user)) BadLine
 cluster_refusal plan lives (Tick seconds) = None
 cluster_refusal plan lives Sum = None
 
@@ -207,6 +210,7 @@ MayHaveAsked other turn sessions extra = extra ≡ []
 abbrev pub IsAlwaysDone : ClusterOrder → Type 0
 IsAlwaysDone (Crash node) = ⊤
 IsAlwaysDone (Lose node) = ⊤
+IsAlwaysDone (Maps user) = ⊤
 IsAlwaysDone (Tick seconds) = ⊤
 IsAlwaysDone Sum = ⊤
 IsAlwaysDone order = ⊥

@@ -1,5 +1,5 @@
 -- What stays of a world over its steps.
-use Rattle.std.proofs.Common.{◌≡◌, inl, inr, ℕ, suc, Bool, true, false, true≢false, eqb-true, List, [], ◌∷◌, ◌++◌, refl, sym, ap, ◌∙◌, subst, append-nil, append_assoc, ◌≤◌, arith}
+use Rattle.std.proofs.Common.{◌≡◌, ◌⊎◌, inl, inr, ℕ, nat_eq, suc, Bool, true, false, true≢false, eqb-true, List, [], ◌∷◌, ◌++◌, refl, sym, ap, ◌∙◌, subst, append-nil, append_assoc, ◌≤◌, arith}
 use Rattle.std.specs.Prelude.{MatchBool, Result, Option, is_some}
 use Rattle.std.specs.List.{list_all}
 use Rattle.mail_model.specs.Plan.{Plan}
@@ -19,7 +19,9 @@ use Rattle.cluster_world.specs.Steps.{IsStep, IsBlind, StepIsKnown}
 use Rattle.cluster_world.specs.Ended.{IsEnded}
 use Rattle.cluster_world.specs.Seen.{step_seen, outcome_seen}
 use Rattle.cluster_world.specs.Made.{StepMade, MakesSteps, PostsAll, IsOfRegroup, AreOfRegroup, has_failed}
-use Rattle.cluster_world.specs.Regroups.{HasRegrouped}
+use Rattle.cluster_world.specs.Settling.{IsOfSettle, AreOfSettle}
+use Rattle.cluster_world.specs.Settling.IsOfSettle.{Posts, Pushes, Reports}
+use Rattle.cluster_world.specs.declared.settling.Settle.{Settle}
 use Rattle.cluster_world.specs.declared.world.World.{World}
 use Rattle.cluster_world.specs.declared.step.Step.{Step}
 use Rattle.cluster_world.specs.declared.step.Step.TheVariants as step
@@ -27,7 +29,7 @@ use Rattle.cluster_world.specs.declared.step.Said.{Said}
 use Rattle.cluster_world.specs.declared.regrouping.Regroup.{Regroup}
 use Rattle.cluster_world.specs.declared.fault.StepFault.{StepFault}
 use Rattle.cluster_world.proofs.Chained.{tells_alike}
-use Rattle.shard_board.specs.Deeds.{Regroups, is_blind}
+use Rattle.shard_board.specs.Deeds.{Regroups, Settles, is_blind}
 use Rattle.shard_board.specs.Pages.{is_known_over}
 use Rattle.shard_board.specs.Worlds.{KeepsWorld, AllKnown, StepsKeepWorld, FlowsKeepWorld, OpenedIsSound}
 
@@ -53,6 +55,7 @@ blind_so nodes (step.Drop letter) blind = tt
 blind_so nodes (step.Widen at user id to) blind = tt
 blind_so nodes (step.Group node) blind = tt
 blind_so nodes (step.Conclude node) blind = tt
+blind_so nodes (step.Report from to) blind = tt
 blind_so nodes (step.Crash node) blind = tt
 blind_so nodes (step.Lose node) blind = tt
 blind_so nodes (step.Tick seconds) blind = tt
@@ -71,6 +74,22 @@ regroup_ended n one (inr (inr (letter, is))) = subst IsEnded (sym is) tt
 regroup_known : (tells : Bool) (nodes n : ℕ) (steps : List StepMade) → AreOfRegroup n steps → AllKnown tells nodes steps
 regroup_known tells nodes n [] of = tt
 regroup_known tells nodes n (one ∷ more) (here, rest) = (inr (regroup_blind nodes n one here), regroup_ended n one here, regroup_known tells nodes n more rest)
+
+-- each step of a settle hands in no message, and is known where the disks tell, or over one node
+pub settle_ended : (one : StepMade) → IsOfSettle one → IsEnded one.step
+settle_ended one (Posts post) = subst IsEnded (sym post.1) tt
+settle_ended one (Pushes from to apart is) = subst IsEnded (sym is) tt
+settle_ended one (Reports from to apart is) = subst IsEnded (sym is) tt
+
+settle_step_known : (tells : Bool) (nodes : ℕ) (one : StepMade) → (tells ≡ true) ⊎ (nodes ≡ 1) → IsOfSettle one → (tells ≡ true) ⊎ IsBlind nodes one.step
+settle_step_known tells nodes one (inl told) of = inl told
+settle_step_known tells nodes one (inr alone) (Posts post) = inr (subst (IsBlind nodes) (sym post.1) tt)
+settle_step_known tells nodes one (inr alone) (Pushes from to apart is) = inr (subst (IsBlind nodes) (sym is) alone)
+settle_step_known tells nodes one (inr alone) (Reports from to apart is) = inr (subst (IsBlind nodes) (sym is) tt)
+
+pub settle_known : (tells : Bool) (nodes : ℕ) (steps : List StepMade) → (tells ≡ true) ⊎ (nodes ≡ 1) → AreOfSettle steps → AllKnown tells nodes steps
+settle_known tells nodes [] known of = tt
+settle_known tells nodes (one ∷ more) known (here, rest) = (settle_step_known tells nodes one known here, settle_ended one here, settle_known tells nodes more known rest)
 
 module _ {D : Type 0} (on : View D) where
   -- a sound world of the machine for which it stands
@@ -160,6 +179,32 @@ module _ {D : Type 0} (on : View D) where
   keeps_regroup n result old new ready (inl (steps, made)) =
       kept old new ready (steps_stay steps old new (regroup_known (disks_tell on.seen old) (plan_of old).nodes n steps made.of) made.made)
   keeps_regroup n result old new ready (inr (short, same)) = kept old new ready (stays_same old new same)
+
+  -- what stays over a settle, whatever the disks tell
+  settled_plan : (steps : List StepMade) (old new : World D) → MakesSteps on steps old new → (plan_of new ≡ plan_of old) × IsLongerBook (book_of old) (book_of new)
+  settled_plan [] old new same = (ap plan_of same, subst (λ (w : World D). IsLongerBook (book_of old) (book_of w)) (sym same) ([], sym (append-nil (book_of old))))
+  settled_plan (one ∷ more) old new (mid, is, makes) = let rest = settled_plan more mid new makes in (rest.0 ∙ is.did.plan, longer_both old mid new is.did.books rest.1)
+
+  pub settles_plan : (result : Result Settle StepFault) (old new : World D) → Settles on result old new → plan_of new ≡ plan_of old
+  settles_plan result old new (inl s) = (settled_plan s.makes.steps old new s.makes.made).0
+  settles_plan result old new (inr (short, same)) = ap plan_of same
+
+  pub settles_longer : (result : Result Settle StepFault) (old new : World D) → Settles on result old new → IsLongerBook (book_of old) (book_of new)
+  settles_longer result old new (inl s) = (settled_plan s.makes.steps old new s.makes.made).1
+  settles_longer result old new (inr (short, same)) = subst (λ (w : World D). IsLongerBook (book_of old) (book_of w)) (sym same) ([], sym (append-nil (book_of old)))
+
+  pub keeps_settle : (result : Result Settle StepFault) (old new : World D) → (disks_tell on.seen old ≡ true) ⊎ ((plan_of old).nodes ≡ 1) → CanMakeSteps on.seen new → Settles on result old new → KeepsWorld on old new
+  keeps_settle result old new known ready (inl s) =
+      kept old new ready (steps_stay s.makes.steps old new (settle_known (disks_tell on.seen old) (plan_of old).nodes s.makes.steps known s.makes.of) s.makes.made)
+  keeps_settle result old new known ready (inr (short, same)) = kept old new ready (stays_same old new same)
+
+  -- a settle is known over one node, or where the disks tell
+  pub settle_known_so : (world : World D) → is_known_over on.seen (nat_eq (plan_of world).nodes 1) world ≡ true → (disks_tell on.seen world ≡ true) ⊎ ((plan_of world).nodes ≡ 1)
+  settle_known_so world known = by (nat_eq (plan_of world).nodes 1) refl known
+    where
+      by : (blind : Bool) → nat_eq (plan_of world).nodes 1 ≡ blind → is_known_over on.seen blind world ≡ true → (disks_tell on.seen world ≡ true) ⊎ ((plan_of world).nodes ≡ 1)
+      by true blind known = inr (eqb-true (plan_of world).nodes 1 blind)
+      by false blind tell = inl tell
 
   pub opened_is_sound : OpenedIsSound on
   opened_is_sound plan world begins =

@@ -12,21 +12,22 @@ use Rattle.cluster_world.specs.declared.fault.StepFault.{StepFault}
 use Rattle.cluster_world.specs.declared.sum.BookSum.{BookSum}
 use Rattle.world_book.specs.declared.entry.Entry.{Entry}
 use Rattle.cluster_world.specs.declared.regrouping.Regroup.{Regroup}
+use Rattle.cluster_world.specs.declared.settling.Settle.{Settle}
 use Rattle.shard_board.specs.declared.order.Told.{Told}
 use Rattle.shard_board.specs.declared.order.Told.TheVariants as told
 use Rattle.shard_board.specs.declared.part.Part.{Part}
 use Rattle.shard_board.specs.declared.board.Board.{Board}
 use Rattle.shard_board.specs.declared.board.BoardPass.{BoardPass}
 use Rattle.shard_board.specs.Boards.{plan_of_board, own_entries, seen_book, made_known, IsTurnOf}
-use Rattle.shard_board.specs.Deeds.{MakesOne, Regroups, is_blind}
+use Rattle.shard_board.specs.Deeds.{MakesOne, Regroups, Settles, is_blind}
 use Rattle.shard_board.specs.Pages.{are_known}
 use Rattle.shard_board.specs.Parts.{pages_of, AddsKnown}
 use Rattle.shard_board.proofs.Paged.{none_added}
 use Rattle.shard_board.specs.Entries.{entry_shown}
-use Rattle.shard_board.specs.Orders.{Ordered, is_blind_order, Obeys, TellsOf, TellsOfRegroup}
-use Rattle.shard_board.specs.Orders.Ordered.{OneStep, Regrouped, Counted}
+use Rattle.shard_board.specs.Orders.{Ordered, is_blind_order, Obeys, TellsOf, TellsOfRegroup, TellsOfSettle}
+use Rattle.shard_board.specs.Orders.Ordered.{OneStep, Regrouped, Settled, Mapped, Counted}
 use Rattle.shard_board.specs.Posts.{step_by}
-use Rattle.shard_board.specs.Reads.{TellsSum, TellsEntry}
+use Rattle.shard_board.specs.Reads.{TellsMap, TellsSum, TellsEntry}
 use Rattle.io_edge.specs.declared.fate.Luck.{Luck}
 use Rattle.io_edge.specs.declared.fate.Luck.TheVariants as luck
 
@@ -109,6 +110,23 @@ module _ {D F C : Type 0} (on : View D) where
       → TellsOfRegroup came result → IsTurnOf on (λ old c new. Regroups on node c old.world new.world) board before after came → IsTurnOf on (Obeys on order) board before after result
   regrouped order node board before after came result same tells t = said_else (λ old c new. Regroups on node c old.world new.world) (Obeys on order) board before after came result
       (λ old new made. regroup_told order node same came result tells old new made) t
+
+  settle_told : (order : Ordered) → order ≡ Settled → (came : Result Settle StepFault) (result : Result Told StepFault) → TellsOfSettle came result
+      → (old new : Part D F C) → Settles on came old.world new.world → Obeys on order old result new
+  settle_told order same (Ok came) result e old new made = subst (λ o. Obeys on o old result new) (sym same) (subst (λ (r : Result Told StepFault). Obeys on Settled old r new) (sym e) made)
+  settle_told order same (Err why) result e old new made = subst (λ o. Obeys on o old result new) (sym same) (subst (λ (r : Result Told StepFault). Obeys on Settled old r new) (sym e) made)
+
+  -- the settle that was ordered was made
+  pub settled : (order : Ordered) (board : Board D F C) (before after : BoardPass D F C) (came : Result Settle StepFault) (result : Result Told StepFault) → order ≡ Settled
+      → TellsOfSettle came result → IsTurnOf on (λ old c new. Settles on c old.world new.world) board before after came → IsTurnOf on (Obeys on order) board before after result
+  settled order board before after came result same tells t = said_else (λ old c new. Settles on c old.world new.world) (Obeys on order) board before after came result
+      (λ old new made. settle_told order same came result tells old new made) t
+
+  -- a map was told
+  pub mapped : (order : Ordered) (user : List ℕ) (board : Board D F C) (before after : BoardPass D F C) (map : Option (ℕ × ℕ)) → order ≡ Mapped user
+      → IsTurnOf on (TellsMap user) board before after map → IsTurnOf on (Obeys on order) board before after (Ok (told.Mapped map))
+  mapped order user board before after map same t = said_else (TellsMap user) (Obeys on order) board before after map (Ok (told.Mapped map))
+      (λ old new tells. subst (λ (o : Ordered). Obeys on o old (Ok (told.Mapped map)) new) (sym same) (tells.map_is, ap (λ (p : Part D F C). p.world) tells.same)) t
 
   -- the entries were counted
   pub counted : (order : Ordered) (board : Board D F C) (before after : BoardPass D F C) (sum : BookSum) → order ≡ Counted

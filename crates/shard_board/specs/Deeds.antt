@@ -3,11 +3,13 @@ use Rattle.std.specs.Prelude.{◌≡◌, ◌⊎◌, ℕ, Bool, true, false, nat_
 use Rattle.node_store.specs.Disks.{View}
 use Rattle.cluster_world.specs.Steps.{IsStep}
 use Rattle.cluster_world.specs.Regroups.{HasRegrouped}
+use Rattle.cluster_world.specs.Rests.{HasSettled}
 use Rattle.cluster_world.specs.declared.world.World.{World}
 use Rattle.cluster_world.specs.declared.step.Step.{Step}
 use Rattle.cluster_world.specs.declared.step.Step.TheVariants.{Push, Start}
 use Rattle.cluster_world.specs.declared.step.Said.{Said}
 use Rattle.cluster_world.specs.declared.regrouping.Regroup.{Regroup}
+use Rattle.cluster_world.specs.declared.settling.Settle.{Settle}
 use Rattle.cluster_world.specs.declared.fault.StepFault.{StepFault}
 use Rattle.cluster_world.specs.declared.fault.StepFault.TheVariants.{NoMemory}
 
@@ -18,6 +20,10 @@ MakesOne on result step old new = IsStep on result step old new ⊎ ((result ≡
 -- The world made a whole regroup by this node; or memory ran out before it, and nothing was done.
 abbrev pub Regroups : {D : Type 0} → View D → ℕ → Result Regroup StepFault → World D → World D → Type 0
 Regroups on node result old new = HasRegrouped on node result old new ⊎ ((result ≡ Err (NoMemory None)) × (new ≡ old))
+
+-- The world was brought to rest, as far as it went; or memory ran out before it, and nothing was done.
+abbrev pub Settles : {D : Type 0} → View D → Result Settle StepFault → World D → World D → Type 0
+Settles on result old new = HasSettled on result old new ⊎ ((result ≡ Err (NoMemory None)) × (new ≡ old))
 
 -- Over so many nodes the step reads from no disk what the machine has to know: all but a start, and a push among several nodes.
 abbrev pub is_blind : ℕ → Step → Bool

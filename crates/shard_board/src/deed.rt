@@ -1,5 +1,5 @@
 //! What a turn does to the world of a board.
-ghost use Rattle.std.specs.Prelude.{◌≡◌, ℕ, Bool, true};
+ghost use Rattle.std.specs.Prelude.{◌≡◌, ℕ, Bool, true, nat_eq};
 ghost use Rattle.node_store.specs.Disks.{view_of};
 ghost use Rattle.cluster_world.specs.Books.{IsLongerBook};
 ghost use Rattle.cluster_world.specs.Worlds.{plan_of, book_of, CanMakeSteps};
@@ -7,9 +7,9 @@ ghost use Rattle.cluster_world.specs.Ended.{IsEnded};
 ghost use Rattle.cluster_world.specs.declared.world.World.{World as AWorld};
 ghost use Rattle.shard_board.specs.Worlds.{IsSoundWorld};
 ghost use Rattle.shard_board.specs.Pages.{is_known_over};
-ghost use Rattle.shard_board.specs.Deeds.{MakesOne, Regroups, is_blind};
+ghost use Rattle.shard_board.specs.Deeds.{MakesOne, Regroups, Settles, is_blind};
 
-use cluster_world::{Regroup, Said, Step, StepFault, World};
+use cluster_world::{Regroup, Said, Settle, Step, StepFault, World};
 use io_edge::Disk;
 use mail_base::NodeNo;
 use std::alloc::Global;
@@ -63,6 +63,7 @@ fn is_blind(step: &Step, nodes: u8) -> bool
         | Step::Widen { .. }
         | Step::Group { .. }
         | Step::Conclude { .. }
+        | Step::Report { .. }
         | Step::Crash { .. }
         | Step::Lose { .. }
         | Step::Tick { .. } => true,
@@ -122,6 +123,32 @@ impl<D: Disk> Deed<D> for Regrouping {
     }
 
     fn short(self) -> Result<Regroup, StepFault> {
+        Err(StepFault::NoMemory { down: None })
+    }
+}
+
+/// A whole settle.
+#[derive(Drop)]
+pub(crate) struct Settling;
+
+impl<D: Disk> Deed<D> for Settling {
+    type Out = Result<Settle, StepFault>;
+
+    ghost asks = { λ deed world. Unit {0} };
+
+    ghost did = { λ deed old result new. Settles (view_of D.seen D.faults D.clock) result old new };
+
+    ghost blind = { λ deed nodes. nat_eq nodes 1 };
+
+    fn is_blind(&self, nodes: u8) -> bool {
+        nodes == 1
+    }
+
+    fn act(self, alloc: Global, world: &mut World<D>) -> Result<Settle, StepFault> {
+        world.settle(alloc)
+    }
+
+    fn short(self) -> Result<Settle, StepFault> {
         Err(StepFault::NoMemory { down: None })
     }
 }

@@ -15,9 +15,10 @@
 //! |---|---|
 //! | `begin`, `ask`, `give_up` | one of that kind |
 //! | `regroup` | those of one regroup: a group is opened, its letters are posted, it is concluded, and its letters are posted |
-//! | `console` | the one that an operator orders; those of a regroup; none to count the entries of the book |
+//! | `settle` | those of one settle: all letters are posted, and members push and report until nothing is due |
+//! | `console` | the one that an operator orders; those of a regroup or a settle; none to tell a map or to count the entries of the book |
 //! | `post_one` | the clock is set, and then the letter of the lowest number is handed over, lost or handed over twice, as fate decides |
-//! | `is_up`, `entry`, `sum` | none |
+//! | `is_up`, `maps`, `entry`, `sum` | none |
 //! | `act` | those of the deed that it is handed |
 //!
 //! HOW IT STANDS
@@ -37,8 +38,8 @@
 //! - A page is known where its deed was blind, or the disks told what they hold. A pass tells still (`tells_still`) where each
 //!   page that it has seen is known; then the worlds that its turn found and left were sound, which says that they stand for a
 //!   sound world of the machine. Over disks of which each tells, every pass tells always (`passes_tell`). Over disks that tell
-//!   nothing a start is not known, nor a push among several nodes: whoever has seen one tells nothing any more.
-//! - `made_known` says that what a pass and those that it took in made is known. Each call but those two orders leaves it as it
+//!   nothing a start is not known, nor a push or a settle among several nodes: whoever has seen one tells nothing any more.
+//! - `made_known` says that what a pass and those that it took in made is known. Each call but those three leaves it as it
 //!   is, and where it holds of the pass that closes the board, the world is sound.
 //! - `specs/Worlds.antt` has what stays of a world over known steps. The law is `steps_keep_world`.
 //!

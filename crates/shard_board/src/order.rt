@@ -1,6 +1,6 @@
 //! What an operator may order.
-use cluster_world::{BookSum, Regroup, Said};
-use mail_base::{MsgId, Name, NodeNo};
+use cluster_world::{BookSum, Regroup, Said, Settle};
+use mail_base::{MsgId, Name, NodeNo, NodeSet};
 
 /// What an operator may order.
 #[derive(Debug, Drop)]
@@ -31,6 +31,17 @@ pub enum Order {
     },
     /// This node opens a group, asks all others, concludes with those that answered, and each of them is told: one epoch more.
     Regroup(NodeNo),
+    /// A node tells another, as their manager, what it has of users: the first 64 rows that are due, as far as there is room.
+    Report {
+        /// Who tells.
+        from: NodeNo,
+        /// The manager.
+        to: NodeNo,
+    },
+    /// The latest epoch is brought to rest: all letters are posted, and members push and report, until nothing is due.
+    Settle,
+    /// It is asked which nodes have mail of this user, as the manager names them.
+    Maps(Name),
     /// The entries of the book are counted.
     Sum,
 }
@@ -42,6 +53,10 @@ pub enum Told {
     Said(Said),
     /// What came of the regroup.
     Regrouped(Regroup),
+    /// What came of the settle.
+    Settled(Settle),
+    /// The manager in the latest epoch, and the nodes that it names; nothing where there is no epoch, or the manager is not live.
+    Mapped(Option<(NodeNo, NodeSet)>),
     /// How many entries of each kind the book has.
     Sum(BookSum),
 }

@@ -6,22 +6,22 @@ ghost use Rattle.cluster_world.specs.Ended.{IsEnded};
 ghost use Rattle.cluster_world.specs.declared.world.World.{World as AWorld};
 ghost use Rattle.cluster_world.specs.declared.step.Step.TheVariants as step;
 ghost use Rattle.shard_board.specs.Parts.{KeepsPart};
-ghost use Rattle.shard_board.specs.Deeds.{MakesOne, Regroups, is_blind};
+ghost use Rattle.shard_board.specs.Deeds.{MakesOne, Regroups, Settles, is_blind};
 ghost use Rattle.shard_board.specs.Boards.{first_part, plan_of_board, own_entries, seen_book, made_known, IsPassOf, IsTurnOf};
-ghost use Rattle.shard_board.specs.Orders.{ordered_by, is_blind_order, Obeys, TellsOf, TellsOfRegroup};
+ghost use Rattle.shard_board.specs.Orders.{ordered_by, is_blind_order, Obeys, TellsOf, TellsOfRegroup, TellsOfSettle};
 ghost use Rattle.shard_board.specs.Posts.{PostsOne};
-ghost use Rattle.shard_board.specs.Reads.{TellsLife, TellsSum, TellsEntry};
+ghost use Rattle.shard_board.specs.Reads.{TellsLife, TellsMap, TellsSum, TellsEntry};
 ghost use Rattle.shard_board.specs.Entries.{entry_shown};
 
 use crate::board::{Board, BoardPass};
-use crate::deed::{Deed, Regrouping, Stepping};
+use crate::deed::{Deed, Regrouping, Settling, Stepping};
 use crate::order::{Order, Told};
 use crate::part::Part;
-use crate::works::{Doing, Looking, Posting, Reading, Summing};
+use crate::works::{Doing, Looking, Mapping, Posting, Reading, Summing};
 use call_tickets::{Call, DeskFault, Life, Posted, Tally};
-use cluster_world::{BookSum, Regroup, Said, Step, StepFault};
+use cluster_world::{BookSum, Regroup, Said, Settle, Step, StepFault};
 use io_edge::{Clock, Disk, Fate};
-use mail_base::{NodeNo, Ticket};
+use mail_base::{Name, NodeNo, NodeSet, Ticket};
 use std::alloc::{AllocError, Global};
 use std::sync::Wait;
 use turnstile::Work;
@@ -39,6 +39,13 @@ fn told_regroup(came: Result<Regroup, StepFault>) -> Result<Told, StepFault>
     ensures { TellsOfRegroup came result }
 {
     Ok(Told::Regrouped(came?))
+}
+
+// What came of a settle is what is told of its order.
+fn told_settle(came: Result<Settle, StepFault>) -> Result<Told, StepFault>
+    ensures { TellsOfSettle came result }
+{
+    Ok(Told::Settled(came?))
 }
 
 impl<D: Disk, F, C> Board<D, F, C> {
@@ -183,9 +190,44 @@ impl<D: Disk, F, C> Board<D, F, C> {
         self.act(rt, alloc, pass, Regrouping { node })
     }
 
-    /// What an operator orders: the step that is ordered, and no other; or the steps of a regroup, all in one turn; or a count of the
-    /// entries of the book. A start, and a push among several nodes, are not blind: over disks that tell nothing, no pass that has
-    /// seen such a step tells any more.
+    /// A whole settle: the steps that it takes, and no other, in one turn. It is blind over one node alone, since it pushes among
+    /// several.
+    ///
+    /// # Errors
+    ///
+    /// Why it was refused, as `World::settle` is.
+    pub fn settle<R: Wait>(
+        &self,
+        rt: &R,
+        alloc: Global,
+        pass: &mut BoardPass<D, F, C>,
+    ) -> Result<Settle, StepFault>
+        requires pass { IsPassOf (view_of D.seen D.faults D.clock) self.now pass.old }
+        ensures pass { IsPassOf (view_of D.seen D.faults D.clock) self.now pass.new }
+        ensures turn { IsTurnOf (view_of D.seen D.faults D.clock) (λ old came new. Settles (view_of D.seen D.faults D.clock) came old.world new.world) self.now pass.old pass.new result }
+        ensures still { (plan_of_board self.now).nodes ≡ 1 → made_known D.seen pass.new ≡ made_known D.seen pass.old }
+    {
+        self.act(rt, alloc, pass, Settling)
+    }
+
+    /// The manager of the user in the latest epoch, and the nodes that it names. It makes no step, and takes no memory.
+    pub fn maps<R: Wait>(
+        &self,
+        rt: &R,
+        pass: &mut BoardPass<D, F, C>,
+        user: Name,
+    ) -> Option<(NodeNo, NodeSet)>
+        requires pass { IsPassOf (view_of D.seen D.faults D.clock) self.now pass.old }
+        ensures pass { IsPassOf (view_of D.seen D.faults D.clock) self.now pass.new }
+        ensures turn { IsTurnOf (view_of D.seen D.faults D.clock) (TellsMap user) self.now pass.old pass.new result }
+        ensures still { made_known D.seen pass.new ≡ made_known D.seen pass.old }
+    {
+        self.take(rt, pass, Mapping { user })
+    }
+
+    /// What an operator orders: the step that is ordered, and no other; or the steps of a regroup or a settle, all in one turn; or
+    /// a user's map; or a count of the entries of the book. A start, and a push or a settle among several nodes, are not blind: over
+    /// disks that tell nothing, no pass that has seen such a step tells any more.
     ///
     /// # Errors
     ///
@@ -211,6 +253,11 @@ impl<D: Disk, F, C> Board<D, F, C> {
                 told(self.step(rt, alloc, pass, Step::Widen { at, user, id, to }))
             }
             Order::Regroup(node) => told_regroup(self.regroup(rt, alloc, pass, node)),
+            Order::Report { from, to } => {
+                told(self.step(rt, alloc, pass, Step::Report { from, to }))
+            }
+            Order::Settle => told_settle(self.settle(rt, alloc, pass)),
+            Order::Maps(user) => Ok(Told::Mapped(self.maps(rt, pass, user))),
             Order::Sum => Ok(Told::Sum(self.sum(rt, pass))),
         }
     }

@@ -5,7 +5,7 @@ ghost use Rattle.node_store.specs.Disks.{view_of};
 ghost use Rattle.cluster_world.specs.Worlds.{plan_of, CanMakeSteps};
 ghost use Rattle.shard_board.specs.Parts.{KeepsPart, AddsKnown};
 ghost use Rattle.shard_board.specs.Posts.{step_by, posted_of, LetterMet, PostsOne};
-ghost use Rattle.shard_board.specs.Reads.{TellsLife, TellsSum, TellsEntry};
+ghost use Rattle.shard_board.specs.Reads.{TellsLife, TellsMap, TellsSum, TellsEntry};
 
 use crate::deed::{Deed, Stepping};
 use crate::entries::{copied, entry_at};
@@ -13,7 +13,7 @@ use crate::part::Part;
 use call_tickets::{DeskFault, Life, Posted};
 use cluster_world::{BookSum, Said, Step, StepFault};
 use io_edge::{Clock, Disk, Fate, Luck};
-use mail_base::NodeNo;
+use mail_base::{Name, NodeNo, NodeSet};
 use std::alloc::{AllocError, Global};
 use turnstile::Work;
 use world_book::Entry;
@@ -71,6 +71,24 @@ impl<D: Disk, F, C> Work<Part<D, F, C>> for Summing {
 
     fn run(self, part: &mut Part<D, F, C>) -> BookSum {
         part.world.sum()
+    }
+}
+
+/// A look at a user's map.
+#[derive(Drop)]
+pub(crate) struct Mapping {
+    pub user: Name,
+}
+
+impl<D: Disk, F, C> Work<Part<D, F, C>> for Mapping {
+    type Out = Option<(NodeNo, NodeSet)>;
+
+    ghost asks = { λ work part. Unit {0} };
+
+    ghost did = { λ work old told new. TellsMap work.user old told new };
+
+    fn run(self, part: &mut Part<D, F, C>) -> Option<(NodeNo, NodeSet)> {
+        part.world.maps(&self.user)
     }
 }
 

@@ -1,6 +1,6 @@
 -- A run line that moves the cluster itself, as the definitions see it.
 use Rattle.tape_lines.specs.declared.cluster_order.ClusterOrder.{ClusterOrder}
-use Rattle.tape_lines.specs.declared.cluster_order.ClusterOrder.TheVariants.{Crash, Start, Lose, Post, Again, Drop, Flow, Push, Widen, Group, Conclude, Regroup, Tick, Sum}
+use Rattle.tape_lines.specs.declared.cluster_order.ClusterOrder.TheVariants.{Crash, Start, Lose, Post, Again, Drop, Flow, Push, Widen, Group, Conclude, Regroup, Report, Settle, Maps, Tick, Sum}
 use Rattle.mail_model.specs.Tape as tape
 
 -- what it does to the cluster
@@ -17,6 +17,9 @@ cluster_order_seen (Widen at user id to) = tape.ClusterOrder.Widen at user id to
 cluster_order_seen (Group node) = tape.ClusterOrder.Group node
 cluster_order_seen (Conclude node) = tape.ClusterOrder.Conclude node
 cluster_order_seen (Regroup node) = tape.ClusterOrder.Regroup node
+cluster_order_seen (Report node) = tape.ClusterOrder.Report node
+cluster_order_seen Settle = tape.ClusterOrder.Settle
+cluster_order_seen (Maps user) = tape.ClusterOrder.Maps user
 cluster_order_seen (Tick seconds) = tape.ClusterOrder.Tick seconds
 cluster_order_seen Sum = tape.ClusterOrder.Sum
 

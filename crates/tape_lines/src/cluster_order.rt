@@ -2,7 +2,7 @@
 ghost use Rattle.std.specs.Prelude.{◌≡◌, codes, option_and_then, IfOk};
 ghost use Rattle.std.specs.Option.{option_map};
 ghost use Rattle.mail_model.specs.Tape as tape;
-ghost use Rattle.mail_model.specs.Tape.{strip, numbered_line, bare_line, widen_line, cluster_order_of};
+ghost use Rattle.mail_model.specs.Tape.{strip, numbered_line, bare_line, widen_line, maps_line, cluster_order_of};
 ghost use Rattle.tape_lines.specs.ClusterOrders.{moves_seen};
 
 use crate::id_word::id_of_word;
@@ -63,6 +63,16 @@ pub enum ClusterOrder {
     /// A node opens a group, all letters of it are posted, and the node concludes it.
     Regroup {
         node: u64,
+    },
+    /// A node reports its rows to each other member.
+    Report {
+        node: u64,
+    },
+    /// The cluster settles: letters are posted, and the members push and report, until nothing is due.
+    Settle,
+    /// It is asked which nodes have mail of the user.
+    Maps {
+        user: Name,
     },
     /// The clock is set to these seconds since 1970.
     Tick {
@@ -169,6 +179,23 @@ fn regroups(line: &[u8]) -> Option<ClusterOrder>
     Some(ClusterOrder::Regroup { node })
 }
 
+fn reports(line: &[u8]) -> Option<ClusterOrder>
+    ensures { option_map moves_seen result ≡ option_and_then (numbered_line tape.ClusterOrder.Report) (strip (codes "report ") line.now) }
+{
+    let node = number(strip(b"report ", line)?)?;
+    Some(ClusterOrder::Report { node })
+}
+
+fn settles(line: &[u8]) -> Option<ClusterOrder>
+    ensures { option_map moves_seen result ≡ option_and_then (bare_line tape.ClusterOrder.Settle) (strip (codes "settle") line.now) }
+{
+    let rest = strip(b"settle", line)?;
+    if !rest.is_empty() {
+        return None;
+    }
+    Some(ClusterOrder::Settle)
+}
+
 fn widen_to(alloc: Global, rest: &[u8]) -> Result<Option<ClusterOrder>, AllocError>
     ensures { IfOk result (λ order. option_map moves_seen order ≡ widen_line rest.now) }
 {
@@ -198,11 +225,29 @@ fn widens(alloc: Global, line: &[u8]) -> Result<Option<ClusterOrder>, AllocError
     }
 }
 
-/// The run line that moves the cluster itself; nothing where the line is none of these. Only `widen` takes memory.
+fn maps_of(alloc: Global, rest: &[u8]) -> Result<Option<ClusterOrder>, AllocError>
+    ensures { IfOk result (λ order. option_map moves_seen order ≡ maps_line rest.now) }
+{
+    let Some(user) = Name::spelt(alloc, rest)? else {
+        return Ok(None);
+    };
+    Ok(Some(ClusterOrder::Maps { user }))
+}
+
+fn asks_maps(alloc: Global, line: &[u8]) -> Result<Option<ClusterOrder>, AllocError>
+    ensures { IfOk result (λ order. option_map moves_seen order ≡ option_and_then maps_line (strip (codes "maps ") line.now)) }
+{
+    match strip(b"maps ", line) {
+        Some(rest) => maps_of(alloc, rest),
+        None => Ok(None),
+    }
+}
+
+/// The run line that moves the cluster itself; nothing where the line is none of these. Only `widen` and `maps` take memory.
 ///
 /// # Errors
 ///
-/// Out of memory alone, for the name of `widen`.
+/// Out of memory alone, for the name of `widen` or `maps`.
 pub(crate) fn cluster_order(alloc: Global, line: &[u8]) -> Result<Option<ClusterOrder>, AllocError>
     ensures { IfOk result (λ order. option_map moves_seen order ≡ cluster_order_of line.now) }
 {
@@ -245,5 +290,14 @@ pub(crate) fn cluster_order(alloc: Global, line: &[u8]) -> Result<Option<Cluster
     if let Some(order) = regroups(line) {
         return Ok(Some(order));
     }
-    widens(alloc, line)
+    if let Some(order) = reports(line) {
+        return Ok(Some(order));
+    }
+    if let Some(order) = settles(line) {
+        return Ok(Some(order));
+    }
+    if let Some(order) = widens(alloc, line)? {
+        return Ok(Some(order));
+    }
+    asks_maps(alloc, line)
 }

@@ -186,12 +186,12 @@ fn spelt_order(alloc: Global, line: &[u8]) -> Result<Option<Order<'_>>, AllocErr
     Ok(ends(line))
 }
 
-/// The run line that stands on the tape, given without its LF; nothing where it is no run line. Only `feed` and `widen`
-/// take memory: an octet for two digits, and a name.
+/// The run line that stands on the tape, given without its LF; nothing where it is no run line. Only `feed`, `widen` and
+/// `maps` take memory: an octet for two digits, and a name.
 ///
 /// # Errors
 ///
-/// Out of memory alone, for the octets of `feed` and the name of `widen`.
+/// Out of memory alone, for the octets of `feed` and the name of `widen` or `maps`.
 pub fn read_order(alloc: Global, raw: &[u8]) -> Result<Option<Order<'_>>, AllocError>
     ensures { IfOk result (λ order. option_map order_seen order ≡ tape_order raw.now) }
 {

@@ -16,7 +16,7 @@
 //! that assign the same claims, members and buckets have the same map. `specs/Plain.antt` has a plain
 //! program of it, and `some_map` says that there always is a map.
 //!
-//! `manages` says whether a node manages a user's bucket by a map.
+//! `manager` tells who manages a user's bucket by a map, and `manages` whether a node does.
 //!
 //! The time grows with the buckets and the claims, and each step looks at each member once.
 //!
@@ -37,4 +37,4 @@ mod managers;
 
 pub use assignment::assign;
 pub use mail_base::{Claim, MapRow, Member, UserMap};
-pub use managers::manages;
+pub use managers::{manager, manages};

@@ -19,3 +19,5 @@ mod Looked
 mod Opened
 mod Outlasted
 mod Settled
+pub mod Reported
+pub mod AtRest

@@ -1,6 +1,6 @@
--- A group that was opened or concluded, and rows that were reported, and what is left of both halves.
+-- A group that was opened or concluded, and what is left of both halves.
 use Rattle.std.proofs.Common.{◌≡◌, ◌<◌, ◌≤◌, ◌-◌, ◌^◌, ℕ, Bool, true, false, List, [], ◌∷◌, ◌++◌, map, Option, Some, None, refl, sym, ap, ◌∙◌, subst, arith, ⊎_elim, nat_eq, if◌then◌else◌}
-use Rattle.std.specs.Prelude.{All, ⊤, reverse, nat_le, min, Result, Ok, Err, IfOk}
+use Rattle.std.specs.Prelude.{All, ⊤, reverse, nat_le, Err}
 use Rattle.std.proofs.lemmas.Bool.{le-leb, lt-leb}
 use Rattle.std.proofs.lemmas.List.Elements.{All-append}
 use Rattle.std.proofs.lemmas.List.Sorted.{All-permutation, IsPermutation-reverse}
@@ -44,7 +44,6 @@ use Rattle.whole_node.specs.Nodes.{whole_seen, KnowsHere, HasMaps, WholeWorks}
 use Rattle.whole_node.specs.Forming.{forms_by, FormsOn}
 use Rattle.whole_node.specs.Hearing.{FitsMaps, appends_promise}
 use Rattle.whole_node.specs.Grouping.{next_of, GroupOpened, Unopened, StopsOpening, OpensGroup, ConcludedBy, GroupConcluded, ConcludesOrNot, ConcludesGroup}
-use Rattle.whole_node.specs.Reporting.{users_first, ReportedBy, ReportsTo}
 use Rattle.whole_node.specs.declared.grouping.Grouped.{Grouped}
 use Rattle.whole_node.specs.declared.node.WholeNode.{WholeNode}
 use Rattle.whole_node.proofs.Called.{same_own, done_stops, knows_any}
@@ -226,25 +225,3 @@ module _ (buckets : ℕ) (done : Concluded) (old new : WholeNode) (has : HasMaps
     keeps = mail.keeps has.records has.keeps;
     knows = λ user id. ap (λ (f : Fragments). is_here_in f user id) c.held ∙ has.knows user id;
   }
-
--- rows that were reported
-pub reported_so : {E : Type 0} (to room : ℕ) (node : WholeNode) (r : Result (List Letter) E) → HasMaps node → (to ≡ node.mail.store.own → ⊥)
-    → rounds.ReportsAs to (min room 64) r node.maps → IfOk r (λ letters. ReportsTo to room letters node)
-reported_so to room node (Err refused) has other reports = tt
-reported_so to room node (Ok letters) has other reports = record {
-  own = λ e. absurd (other e);
-  without = λ e. subst (λ (o : Option Membership). rounds.ReportsIn o to (min room 64) letters node.maps) e reports;
-  sends = λ away membership installed records keeps. record {
-    did = left_by node.maps None (maps_disk_of records) letters;
-    reports = subst (λ (n : ℕ). rules.Reports n to (users_first membership to room node) (node_of node.maps) (maps_disk_of records) (left_by node.maps None (maps_disk_of records) letters)) has.own
-        (subst (λ (o : Option Membership). rounds.ReportsIn o to (min room 64) letters node.maps) installed reports (maps_disk_of records)
-        (is_disk records node.maps (knows_any node has records keeps)));
-    left = λ i. record { node = record { mail = with_epoch (has.epoch i); maps = node_of node.maps }; disk = records ++ promise_records None; out = letters };
-  };
-}
-  where
-    with_epoch : Option Membership → plain.Node
-    with_epoch installed = record (node_seen node.mail) { installed = installed }
-
-pub reports_none : (to room : ℕ) (node : WholeNode) (letters : List Letter) → to ≡ node.mail.store.own → letters ≡ [] → ReportsTo to room letters node
-reports_none to room node letters own none = record { own = λ e. none; without = λ e. none; sends = λ away. absurd (away own) }

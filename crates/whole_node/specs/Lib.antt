@@ -7,3 +7,4 @@ pub mod Forming
 pub mod Hearing
 pub mod Grouping
 pub mod Reporting
+pub mod Settling

@@ -18,6 +18,7 @@
 //! | `open_group` | the node promises the epoch of a group of its own, and asks the other nodes to join it |
 //! | `conclude` | the open group is concluded: those who joined are its members |
 //! | `report` | the Reports of the first rows that are due to a node |
+//! | `owes_rows`, `is_settled`, `named` | nothing: they tell whether a row is due to a node, whether nothing is owed or due to anybody, and whom the node names as having mail of a user |
 //! | `widen`, `push`, `ask`, `give_up`, `mishap` | nothing: they change of no message whether it is here |
 //!
 //! `mail` and `maps` show both halves, and what each of them tells is read there.
@@ -56,10 +57,12 @@ mod first;
 mod grouping;
 mod hear;
 mod hearing;
+mod naming;
 mod node;
 mod noting;
 mod reporting;
 mod restart;
+mod settling;
 mod starting;
 
 pub use grouping::Grouped;

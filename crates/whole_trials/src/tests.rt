@@ -18,6 +18,7 @@
 //! m 3    > F31             a message to ann begins at node 3
 //! r 3 1  > R31             node 3 reports to node 1
 //! n 1    > 3               whom node 1 names as having mail of ann; `none` where it names nobody
+//! q 3    > 1-             to whom it owes rows, and `-` as it owes something; `settled` where it owes nothing
 //! l 1    > 1.1 1.1 11 21   its promise, the epoch that it is in, and the members with their boots; `none` where it is in none
 //! ```
 mod cluster;

@@ -1,5 +1,5 @@
 -- How epochs are compared.
-use Rattle.std.proofs.Common.{◌≡◌, inl, inr, Bool, true, false, ◌||◌, ◌&&◌, refl, sym, ap, ◌∙◌, nat_eq, nat_lt, eq-eqb, true≢false}
+use Rattle.std.proofs.Common.{◌≡◌, inl, inr, Bool, true, false, ◌||◌, ◌&&◌, refl, sym, ap, nat_eq, nat_lt, eq-eqb, true≢false}
 use Rattle.std.proofs.lemmas.Bool.{ltb-true, lt-ltb, eqb-true}
 use Rattle.mail_model.specs.Identity.{EpochId}
 use Rattle.maps_model.specs.Epochs.{IsBefore}

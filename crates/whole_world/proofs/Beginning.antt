@@ -18,8 +18,8 @@ use Rattle.maps_model.specs.Rules.HearsInstall.{Old as OldInstall, NotPromised, 
 use Rattle.maps_model.specs.Rules.HearsReport.{Stale as StaleReport, Takes, Older}
 use Rattle.maps_model.specs.Rules.HearsAck.{Stale as StaleAck, Clears, Other}
 use Rattle.maps_model.proofs.Lists.{same_or_apart}
-use Rattle.whole_model.specs.Whole.{Node, Life, Slot, slot_at, with_slot, mail_slot, maps_disk_of}
-use Rattle.whole_model.specs.Whole.Life.{Up, Down, Lost}
+use Rattle.whole_model.specs.Whole.{Node, Slot, slot_at, with_slot, maps_disk_of}
+use Rattle.whole_model.specs.Whole.Life.{Up, Down}
 use Rattle.whole_model.specs.Rules.{IsMapsBody}
 use Rattle.whole_world.specs.World.{World, mail_world_of, slot_up, IsUp, FollowsAlong, Reaction, after}
 use Rattle.whole_world.specs.Steps.{Step, Said, StepOutcome}
@@ -32,13 +32,13 @@ use Rattle.whole_world.specs.Makes.StartsUp.{Comes, FailsStarting}
 use Rattle.whole_world.specs.Makes.DoesStep.{ForMessages, PostsMaps, Starts, OpensGroup, ConcludesGroup, SendsReports}
 use Rattle.whole_world.specs.Makes.RunsShort.{InMessages, Starting, Promising}
 use Rattle.whole_world.specs.Laws.{Stands}
-use Rattle.whole_world.proofs.Plain.{Turns, IsPlain}
+use Rattle.whole_world.proofs.Plain.{IsPlain}
 use Rattle.whole_world.proofs.Stepwise.{steps_plain, short_plain}
-use Rattle.whole_world.proofs.Along.{mail_here, unseen_at}
+use Rattle.whole_world.proofs.Along.{mail_here}
 use Rattle.whole_world.proofs.Keeping.{follows_epoch, apart, of_mail}
 use Rattle.whole_world.proofs.Seeing.{put_slots}
 use Rattle.whole_world.proofs.Viewing.{slot_here, slot_other}
-use Rattle.std.proofs.Common.{◌≡◌, ◌≢◌, ◌⊎◌, inl, inr, ⊎_elim, ℕ, ◌+◌, Bool, true, false, ◌&&◌, ◌||◌, List, [], ◌∷◌, ◌++◌, map, length, drop, reverse, Option, Some, None, is_some, refl, sym, ap, ◌∙◌, subst, nat_eq, nat_le, true≢false, eq-eqb, if◌then◌else◌}
+use Rattle.std.proofs.Common.{◌≡◌, ◌≢◌, ◌⊎◌, inl, inr, ⊎_elim, ℕ, ◌+◌, Bool, true, false, ◌&&◌, ◌||◌, List, [], ◌∷◌, ◌++◌, length, drop, reverse, Option, Some, None, is_some, refl, sym, ap, ◌∙◌, subst, nat_eq, nat_le, true≢false, eq-eqb, if◌then◌else◌}
 use Rattle.mail_model.specs.Book.{BookEntry, Acked}
 use Rattle.mail_model.specs.Book.BookEntry.{Acknowledged, Struck, Dropped, CameUp, WasLost}
 use Rattle.cluster_model.specs.Claims.{boot_of}
@@ -61,6 +61,7 @@ use Rattle.cluster_model.specs.Thrown.Why.{Stale, Late as LateWhy}
 use Rattle.cluster_model.specs.Steps.Said.{Thrown}
 use Rattle.whole_world.specs.Steps.Said.{Told}
 use Rattle.whole_world.proofs.Viewing.{split_one}
+use Rattle.whole_world.proofs.Returning.{plain_back}
 use Rattle.whole_world.proofs.Staying.{follows_boot}
 
 -- What a node hears of maps: its epoch stood, or it enters.
@@ -135,51 +136,15 @@ module _ (plan : Plan) (old : World) (stands : Stands plan old) where
       now = done_for_maps from disk did promise out
 
   plain_begins : (new : World) (step : Step) → IsPlain (mail_world_of old) (mail_world_of new) → FollowsAlong old new → Begins new step
-  plain_begins new step plain follow n node disk up g h = by_life was.0.life refl
-    where
-      turn : (before : mail_cluster.Slot) × (mail_cluster.slot_at (map mail_slot old.slots) n ≡ Some before) × Turns before (mail_slot (slot_up node disk))
-      turn = plain.turns n (mail_slot (slot_up node disk)) (mail_here new.slots n (slot_up node disk) up)
-
-      was : (s : Slot) × (slot_at old.slots n ≡ Some s) × (mail_slot s ≡ turn.0)
-      was = unseen_at old.slots n turn.0 turn.1
-
-      up_before : Turns turn.0 (mail_slot (slot_up node disk)) → (a : mail_cluster.Node) × ((mail_slot was.0).life ≡ mail_cluster.Life.Up a)
-      up_before (Turns.Rests e) = (node.mail, ap (λ (s : mail_cluster.Slot). s.life) (was.2 ∙ e))
-      up_before (Turns.Works a b d added ea eb of installed) = (a, ap (λ (s : mail_cluster.Slot). s.life) (was.2 ∙ ea))
-      up_before (Turns.Falls a d front pending ea eb fo po) = absurd (clash pending (ap (λ (s : mail_cluster.Slot). s.life) eb))
-        where
-          clash : (p : List Record) → mail_cluster.Life.Up node.mail ≡ mail_cluster.Life.Down p → ⊥
-          clash p e = cc
-      up_before (Turns.Stops d pending next new_ ea stops eb) = absurd (clash next (ap (λ (s : mail_cluster.Slot). s.life) eb))
-        where
-          clash : (p : List Record) → mail_cluster.Life.Up node.mail ≡ mail_cluster.Life.Down p → ⊥
-          clash p e = cc
-      up_before (Turns.IsLost w kept k eb) = absurd (clash (ap (λ (s : mail_cluster.Slot). s.life) eb))
-        where
-          clash : mail_cluster.Life.Up node.mail ≡ mail_cluster.Life.Lost → ⊥
-          clash e = cc
-
-      before : (a : mail_cluster.Node) × ((mail_slot was.0).life ≡ mail_cluster.Life.Up a)
-      before = up_before turn.2
-
-      by_life : (life : Life) → was.0.life ≡ life → HadInstalled old n node.maps.boot g ⊎ HearsInstall old step n node.maps.boot g ⊎ (step ≡ ConcludeGroup n)
-      by_life (Up x) is =
-          let e = follow.each n was.0 (slot_up node disk) was.1 up x node is refl in
-          inl (record {
-            node = x;
-            disk = was.0.disk;
-            up = was.1 ∙ ap (λ (l : Life). Some (record { life = l; disk = was.0.disk })) is;
-            same = sym (ap (λ (k : maps.Node). k.boot) e ∙ follows_boot n x.maps was.0.disk (drop (length was.0.disk) disk));
-            installed = sym (ap (λ (k : maps.Node). k.installed) e ∙ follows_epoch n x.maps was.0.disk (drop (length was.0.disk) disk)) ∙ h;
-          })
-      by_life (Down p) is = absurd (clash p before.0 (sym (ap (λ (l : Life). (mail_slot (record { life = l; disk = was.0.disk })).life) is) ∙ before.1))
-        where
-          clash : (p : List Record) (a : mail_cluster.Node) → mail_cluster.Life.Down p ≡ mail_cluster.Life.Up a → ⊥
-          clash p a e = cc
-      by_life Lost is = absurd (clash before.0 (sym (ap (λ (l : Life). (mail_slot (record { life = l; disk = was.0.disk })).life) is) ∙ before.1))
-        where
-          clash : (a : mail_cluster.Node) → mail_cluster.Life.Lost ≡ mail_cluster.Life.Up a → ⊥
-          clash a e = cc
+  plain_begins new step plain follow n node disk up g h =
+      let was = plain_back old new plain follow n node disk up in
+      inl (record {
+        node = was.before;
+        disk = was.its;
+        up = was.up;
+        same = sym (ap (λ (k : maps.Node). k.boot) was.maps_are ∙ follows_boot n was.before.maps was.its (drop (length was.its) disk));
+        installed = sym (ap (λ (k : maps.Node). k.installed) was.maps_are ∙ follows_epoch n was.before.maps was.its (drop (length was.its) disk)) ∙ h;
+      })
 
   cut_begins : (step : Step) (own : ℕ) (node : Node) (disk added : List Record) → IsUp old own node disk → (new : World) → NodeGoesDown old own disk added new → Begins new step
   cut_begins step own node disk added up new g = down_begins new step own (slot_up node disk) g.pending (disk ++ g.front) up (ap (λ (w : World). w.slots) g.is)
@@ -213,7 +178,7 @@ module _ (plan : Plan) (old : World) (stands : Stands plan old) where
       (turned_begins step n node disk up old refl node (maps_rules.start_group n plan.nodes node.maps (maps_disk_of disk)) (Some (maps_rules.next_epoch n node.maps)) (reverse (maps_rules.start_group n plan.nodes node.maps (maps_disk_of disk)).out) (stood_at step n node disk up (maps_rules.start_group n plan.nodes node.maps (maps_disk_of disk)) refl refl))
   does_begin tells step said new (OpensGroup n is (FailsOpening node disk up says g)) = cut_begins step n node disk _ up new g
   does_begin tells step said new (ConcludesGroup n is f) = subst (λ (w : World). Begins w step) (sym f.new_world) (turned_begins step n f.node f.disk f.up old refl f.node f.did None f.did.out (λ g h. inr (inr is)))
-  does_begin tells step said new (SendsReports from to is (Sends node disk up did r says new_world)) = subst (λ (w : World). Begins w step) (sym new_world)
+  does_begin tells step said new (SendsReports from to is (Sends node disk up users first some did r says new_world)) = subst (λ (w : World). Begins w step) (sym new_world)
       (turned_begins step from node disk up old refl node did None did.out (stood_at step from node disk up did (ap (λ (d : maps_rules.Reaction). d.node.boot) r.is) (ap (λ (d : maps_rules.Reaction). d.node.installed) r.is)))
   does_begin tells step said new (SendsReports from to is (HasNone node disk up none says new_world)) = same_begins new step new_world
 

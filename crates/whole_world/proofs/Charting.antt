@@ -1,5 +1,5 @@
 -- Every step keeps that nobody marks a user of its own, and that each epoch has a manager for each bucket.
-use Rattle.std.proofs.Common.{◌≡◌, ◌⊎◌, inl, inr, ⊎_elim, ℕ, zero, suc, ◌+◌, ◌<◌, Bool, true, false, cond, List, [], ◌∷◌, ◌++◌, map, length, drop, reverse, Option, Some, None, refl, sym, ap, ◌∙◌, subst, nat_eq, true≢false, if◌then◌else◌}
+use Rattle.std.proofs.Common.{◌≡◌, ◌⊎◌, inl, inr, ⊎_elim, ℕ, zero, suc, ◌+◌, ◌<◌, Bool, true, false, cond, List, [], ◌∷◌, ◌++◌, length, drop, reverse, Option, Some, None, refl, sym, ap, ◌∙◌, subst, nat_eq, true≢false, if◌then◌else◌}
 use Rattle.std.specs.Cmp.Lexicographic.{pointwise, bytes_decides}
 use Rattle.std.specs.Prelude.{slice_get}
 use Rattle.mail_model.specs.Identity.{EpochId}
@@ -10,7 +10,6 @@ use Rattle.mail_model.specs.Record.Record.{Boot, Promise, Octets, Stated, Retire
 use Rattle.object_model.specs.Lists.{Among}
 use Rattle.object_model.specs.Letters.{Membership, Body, Letter}
 use Rattle.object_model.specs.Letters.Body.{Group, Join, Install, Report, ReportAck}
-use Rattle.cluster_model.specs.Cluster as mail_cluster
 use Rattle.cluster_model.specs.World as mail
 use Rattle.cluster_model.specs.World.{letters_of}
 use Rattle.cluster_model.specs.Steps.Step.{Start}
@@ -26,11 +25,11 @@ use Rattle.maps_model.specs.Rules.HearsReport.{Stale as StaleReport, Takes, Olde
 use Rattle.maps_model.specs.Rules.HearsAck.{Stale as StaleAck, Clears, Other}
 use Rattle.maps_model.specs.Rules.MarkAt.{TellsItself, Marks, Spares}
 use Rattle.maps_model.proofs.Lists.{same_or_apart, node_is}
-use Rattle.whole_model.specs.Whole.{Node, Life, Slot, slot_at, with_slot, mail_slot, maps_disk_of, holds_of}
-use Rattle.whole_model.specs.Whole.Life.{Up, Down, Lost}
+use Rattle.whole_model.specs.Whole.{Node, Slot, slot_at, with_slot, maps_disk_of, holds_of}
+use Rattle.whole_model.specs.Whole.Life.{Up, Down}
 use Rattle.whole_model.specs.Rules.{differ, turned_for, followed, follows, IsMapsBody, IsMailBody}
 use Rattle.whole_world.specs.World.{World, mail_world_of, slot_up, IsUp, FollowsAlong, Reaction, after}
-use Rattle.whole_world.specs.Steps.{Step, Said, StepOutcome, users_reported}
+use Rattle.whole_world.specs.Steps.{Step, Said, StepOutcome}
 use Rattle.whole_world.specs.Steps.StepOutcome.{Says, Refused, NoMemory}
 use Rattle.whole_world.specs.Makes.{done_for_maps, learnt, promise_by, NodeGoesDown, started, IsForMessages, DoesStep, RunsShort, MadeStep, MakesStep, MakesAll}
 use Rattle.whole_world.specs.Makes.Groups.{Opens, FailsOpening}
@@ -42,11 +41,11 @@ use Rattle.whole_world.specs.Makes.RunsShort.{InMessages, Starting, Promising}
 use Rattle.whole_world.specs.Laws.{Stands}
 use Rattle.whole_world.specs.Settled.{empty_slots, unopened_world}
 use Rattle.whole_world.specs.Sweeps.{IsCharted}
-use Rattle.whole_world.proofs.Plain.{Turns, IsPlain, IsMailOf}
+use Rattle.whole_world.proofs.Plain.{IsPlain, IsMailOf}
 use Rattle.whole_world.proofs.Stepwise.{flew_on, steps_plain, short_plain}
-use Rattle.whole_world.proofs.Along.{mail_here, unseen_at}
 use Rattle.whole_world.proofs.Keeping.{follows_epoch, apart, of_mail}
 use Rattle.whole_world.proofs.Seeing.{among_reverse, put_slots, put_among}
+use Rattle.whole_world.proofs.Returning.{plain_back}
 use Rattle.whole_world.proofs.Stepping.{makes_stand}
 use Rattle.whole_world.proofs.Viewing.{slot_here, slot_other}
 
@@ -258,49 +257,11 @@ module _ (plan : Plan) (old : World) (stands : Stands plan old) (charted : IsCha
   }
     where
       at : (n : ℕ) (node : Node) (disk : List Record) → IsUp new n node disk → IsFair n node.maps × ((g : Membership) → node.maps.installed ≡ Some g → Good g)
-      at n node disk up = by_life was.0.life refl
-        where
-          turn : (before : mail_cluster.Slot) × (mail_cluster.slot_at (map mail_slot old.slots) n ≡ Some before) × Turns before (mail_slot (slot_up node disk))
-          turn = plain.turns n (mail_slot (slot_up node disk)) (mail_here new.slots n (slot_up node disk) up)
-
-          was : (s : Slot) × (slot_at old.slots n ≡ Some s) × (mail_slot s ≡ turn.0)
-          was = unseen_at old.slots n turn.0 turn.1
-
-          -- whoever is up was up
-          up_before : Turns turn.0 (mail_slot (slot_up node disk)) → (a : mail_cluster.Node) × ((mail_slot was.0).life ≡ mail_cluster.Life.Up a)
-          up_before (Turns.Rests e) = (node.mail, ap (λ (s : mail_cluster.Slot). s.life) (was.2 ∙ e))
-          up_before (Turns.Works a b d added ea eb of installed) = (a, ap (λ (s : mail_cluster.Slot). s.life) (was.2 ∙ ea))
-          up_before (Turns.Falls a d front pending ea eb fo po) = absurd (clash pending (ap (λ (s : mail_cluster.Slot). s.life) eb))
-            where
-              clash : (p : List Record) → mail_cluster.Life.Up node.mail ≡ mail_cluster.Life.Down p → ⊥
-              clash p e = cc
-          up_before (Turns.Stops d pending next new_ ea stops eb) = absurd (clash next (ap (λ (s : mail_cluster.Slot). s.life) eb))
-            where
-              clash : (p : List Record) → mail_cluster.Life.Up node.mail ≡ mail_cluster.Life.Down p → ⊥
-              clash p e = cc
-          up_before (Turns.IsLost w kept k eb) = absurd (clash (ap (λ (s : mail_cluster.Slot). s.life) eb))
-            where
-              clash : mail_cluster.Life.Up node.mail ≡ mail_cluster.Life.Lost → ⊥
-              clash e = cc
-
-          before : (a : mail_cluster.Node) × ((mail_slot was.0).life ≡ mail_cluster.Life.Up a)
-          before = up_before turn.2
-
-          by_life : (life : Life) → was.0.life ≡ life → IsFair n node.maps × ((g : Membership) → node.maps.installed ≡ Some g → Good g)
-          by_life (Up x) is =
-              let maps_are : node.maps ≡ follows n x.maps was.0.disk (drop (length was.0.disk) disk) = follow.each n was.0 (slot_up node disk) was.1 up x node is refl in
-              let stood : IsUp old n x was.0.disk = was.1 ∙ ap (λ (l : Life). Some (record { life = l; disk = was.0.disk })) is in (
-                subst (IsFair n) (sym maps_are) (follows_fair n x.maps was.0.disk (drop (length was.0.disk) disk) (fair_at n x was.0.disk stood)),
-                λ g installed. known_at n x was.0.disk stood g (sym (ap (λ (k : maps.Node). k.installed) maps_are ∙ follows_epoch n x.maps was.0.disk (drop (length was.0.disk) disk)) ∙ installed),
-              )
-          by_life (Down p) is = absurd (clash p before.0 (sym (ap (λ (l : Life). (mail_slot (record { life = l; disk = was.0.disk })).life) is) ∙ before.1))
-            where
-              clash : (p : List Record) (a : mail_cluster.Node) → mail_cluster.Life.Down p ≡ mail_cluster.Life.Up a → ⊥
-              clash p a e = cc
-          by_life Lost is = absurd (clash before.0 (sym (ap (λ (l : Life). (mail_slot (record { life = l; disk = was.0.disk })).life) is) ∙ before.1))
-            where
-              clash : (a : mail_cluster.Node) → mail_cluster.Life.Lost ≡ mail_cluster.Life.Up a → ⊥
-              clash a e = cc
+      at n node disk up =
+          let was = plain_back old new plain follow n node disk up in (
+            subst (IsFair n) (sym was.maps_are) (follows_fair n was.before.maps was.its (drop (length was.its) disk) (fair_at n was.before was.its was.up)),
+            λ g installed. known_at n was.before was.its was.up g (sym (ap (λ (k : maps.Node). k.installed) was.maps_are ∙ follows_epoch n was.before.maps was.its (drop (length was.its) disk)) ∙ installed),
+          )
 
   cut_chart : (own : ℕ) (node : Node) (disk added : List Record) → IsUp old own node disk → (new : World) → NodeGoesDown old own disk added new → IsCharted plan new
   cut_chart own node disk added up new g = down_chart new own (slot_up node disk) g.pending (disk ++ g.front) up (ap (λ (w : World). w.slots) g.is)
@@ -370,10 +331,10 @@ module _ (plan : Plan) (old : World) (stands : Stands plan old) (charted : IsCha
           by : (join : maps.Joined) (b : Bool) → Among letter (if b then [] else maps_rules.letter_to n (Install (maps_rules.membership_of c.group c.rows)) join.member.node ∷ []) → Good g
           by join true i = absurd i
           by join false i = ⊎_elim (λ e. subst Good (installs formed g (ap (λ (l : Letter). l.body) e ∙ body)) good) (λ none. absurd none) i
-  does_chart tells step said new (SendsReports from to is (Sends node disk up did r says new_world)) = subst (IsCharted plan) (sym new_world)
+  does_chart tells step said new (SendsReports from to is (Sends node disk up users first some did r says new_world)) = subst (IsCharted plan) (sym new_world)
       (turned_chart from node disk up old refl (λ letter m. m) node did None did.out (subst (λ (d : maps_rules.Reaction). IsFair from d.node) (sym r.is) (fair_at from node disk up))
       (λ g e. known_at from node disk up g (sym (ap (λ (d : maps_rules.Reaction). d.node.installed) r.is) ∙ e))
-      (λ letter m g body. let k = among_map (λ user. record { from = from; to = to; epoch = r.membership.epoch; ticket = None; body = Report (maps_rules.own_row from node.maps (maps_disk_of disk) user) }) letter (users_reported plan old.flying from to node.maps)
+      (λ letter m g body. let k = among_map (λ user. record { from = from; to = to; epoch = r.membership.epoch; ticket = None; body = Report (maps_rules.own_row from node.maps (maps_disk_of disk) user) }) letter users
       (subst (λ (d : maps_rules.Reaction). Among letter d.out) r.is m) in
       absurd (clash g _ (ap (λ (l : Letter). l.body) k.2 ∙ body))))
     where

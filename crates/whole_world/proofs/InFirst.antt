@@ -1,5 +1,5 @@
 -- A cluster that opens in its first epoch is sound.
-use Rattle.std.proofs.Common.{◌≡◌, ◌≢◌, ◌⊎◌, inl, inr, ⊎_elim, ◌<◌, ◌≤◌, ℕ, zero, suc, Bool, true, false, nat_eq, List, [], ◌∷◌, ◌++◌, map, Option, Some, None, refl, sym, ap, ◌∙◌, subst, le_refl, arith, if◌then◌else◌}
+use Rattle.std.proofs.Common.{◌≡◌, ◌≢◌, ◌⊎◌, inl, inr, ◌<◌, ◌≤◌, ℕ, zero, suc, Bool, true, false, nat_eq, List, [], ◌∷◌, ◌++◌, map, Option, Some, None, refl, sym, ap, ◌∙◌, subst, le_refl, arith, if◌then◌else◌}
 use Rattle.std.proofs.lemmas.Bool.{eqb-true}
 use Rattle.std.proofs.lemmas.Bool.Decides.{eqb_tells}
 use Rattle.std.specs.Prelude.{slice_get}
@@ -22,7 +22,7 @@ use Rattle.maps_model.specs.Words.{ManagersAreMembers}
 use Rattle.maps_model.specs.Words.RowFor.{Stands as StandsRow, WillDrop, WillKeep, Ahead}
 use Rattle.whole_model.specs.Whole.{Node, Slot, slot_at, mail_slot, maps_slot}
 use Rattle.whole_model.specs.Whole.Life.{Up}
-use Rattle.whole_world.specs.World.{World, mail_world_of}
+use Rattle.whole_world.specs.World.{mail_world_of}
 use Rattle.whole_world.specs.Laws.{OneEpoch, Stands}
 use Rattle.whole_world.specs.First.{first_maps, first_node, first_slot, first_slots, first_world}
 

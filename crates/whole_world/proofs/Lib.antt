@@ -10,7 +10,9 @@ pub mod Projecting
 pub mod Settling
 pub mod Opening
 pub mod InFirst
+pub mod FirstSettled
 pub mod Viewing
+pub mod Returning
 pub mod Asking
 pub mod Gathering
 pub mod Rounding
@@ -23,4 +25,7 @@ pub mod Sending
 pub mod Sweeping
 pub mod Beginning
 pub mod Flowing
+pub mod Knowing
+pub mod FirstDue
+pub mod Reporting
 pub mod Worked

@@ -17,12 +17,12 @@ use Rattle.cluster_model.specs.Steps.Step.{Post, PushTo, Form, Start}
 use Rattle.cluster_model.specs.Makes as mail_makes
 use Rattle.cluster_model.specs.Makes.Posts.{IsForMaps, FailsForMaps}
 use Rattle.maps_model.specs.Rules as maps_rules
-use Rattle.whole_model.specs.Whole.{Node, Slot, slot_at, with_slot, maps_disk_of}
+use Rattle.whole_model.specs.Whole.{Node, Slot, with_slot, maps_disk_of}
 use Rattle.whole_model.specs.Whole.Life.{Down}
 use Rattle.whole_model.specs.Rules.{promise_records}
 use Rattle.whole_world.specs.World.{World, mail_world_of, slot_up, IsUp}
 use Rattle.whole_world.specs.Thrown.{refused_by}
-use Rattle.whole_world.specs.Steps.{Step, Said, StepFault, StepOutcome, actor_fault, letters_worn, first_refusal, by_slot, group_fault, conclude_fault, node_fault, step_fault, users_reported}
+use Rattle.whole_world.specs.Steps.{Step, Said, StepFault, StepOutcome, actor_fault, letters_worn, first_refusal, by_slot, group_fault, conclude_fault, node_fault, step_fault}
 use Rattle.whole_world.specs.Steps.Step.{OfMessages, OpenGroup, ConcludeGroup, ReportTo}
 use Rattle.whole_world.specs.Steps.StepFault.{Fault}
 use Rattle.whole_world.specs.Steps.StepOutcome.{Says, Refused, NoMemory}
@@ -104,9 +104,9 @@ module _ (plan : Plan) (old new : World) where
       (mail_did f.node f.disk f.did.node.installed None f.did.out) (formed f.node f.disk f.did None f.did.out plain)
       (ap mail_world_of f.new_world ∙ after_seen old n f.node f.disk f.did None f.did.out plain)
 
-  reports_seen : (from to : ℕ) (said : Said) → Reports plan old from to said new → mail_makes.FormsAt (mail_world_of old) from (said_seen said) (mail_world_of new)
-  reports_seen from to said (Sends node disk up did r is new_world) =
-      let plain : (letter : Letter) → Among letter did.out → IsPlainMaps letter = λ letter m. report_sends from to (users_reported plan old.flying from to node.maps) node.maps (maps_disk_of disk) did r letter m in
+  reports_seen : (from to : ℕ) (said : Said) → Reports old from to said new → mail_makes.FormsAt (mail_world_of old) from (said_seen said) (mail_world_of new)
+  reports_seen from to said (Sends node disk up users first some did r is new_world) =
+      let plain : (letter : Letter) → Among letter did.out → IsPlainMaps letter = λ letter m. report_sends from to users node.maps (maps_disk_of disk) did r letter m in
       mail_makes.FormsAt.Does node.mail disk (mail_here old.slots from (slot_up node disk) up) (subst (λ (s : Said). mail_makes.IsSaidOfForming (said_seen s)) (sym is) tt)
       (mail_did node disk did.node.installed None did.out) (formed node disk did None did.out plain) (ap mail_world_of new_world ∙ after_seen old from node disk did None did.out plain)
   reports_seen from to said (HasNone node disk up none is new_world) =
@@ -233,11 +233,14 @@ module _ (plan : Plan) (tells : Bool) (old new : World) where
       at other e f = subst (λ (x : Step). mail_makes.FormsIn (mail_world_of old) node.mail n (step_seen x)) (sym e) f
 
   refused_seen : (step : Step) (fault : StepFault) → (step_fault plan step old ≡ Some fault) ⊎ ((step_fault plan step old ≡ None) × (fault ≡ Fault mail_steps.StepFault.Worn) × Rattle.whole_world.specs.Makes.StartIsWorn old step)
+      ⊎ ((step_fault plan step old ≡ None) × (fault ≡ Fault mail_steps.StepFault.NoRoom) × Rattle.whole_world.specs.Makes.ReportHasNoRoom old step)
       → ((mail_steps.step_fault plan (step_seen step) (mail_world_of old) ≡ Some (fault_seen fault))
       ⊎ ((mail_steps.step_fault plan (step_seen step) (mail_world_of old) ≡ None) × (fault_seen fault ≡ mail_steps.StepFault.Worn) × mail_makes.StartIsWorn (mail_world_of old) (step_seen step))) ⊎ mail_makes.IsUnseen (step_seen step)
   refused_seen (OfMessages one) fault why = inl (⊎_elim
       (λ has. inl (some_fault (mail_steps.step_fault plan one (mail_world_of old)) fault has))
+      (⊎_elim
       (λ (none, is, worn). inr (no_fault (mail_steps.step_fault plan one (mail_world_of old)) none, ap fault_seen is, worn))
+      (λ (none, is, crowded). absurd crowded))
       why)
   refused_seen (OpenGroup n) fault why = inr tt
   refused_seen (ConcludeGroup n) fault why = inr tt

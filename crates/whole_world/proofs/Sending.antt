@@ -1,5 +1,5 @@
 -- What a step sends: where it sends nothing, all is as it was, and nothing was due.
-use Rattle.std.proofs.Common.{◌≡◌, ◌≢◌, ◌⊎◌, inl, inr, ⊎_elim, ℕ, zero, suc, ◌+◌, ◌≤◌, ◌<◌, Bool, true, false, cond, List, [], ◌∷◌, ◌++◌, map, length, drop, Some, None, refl, sym, ap, ◌∙◌, subst, nat_eq, true≢false, if◌then◌else◌}
+use Rattle.std.proofs.Common.{◌≡◌, ◌⊎◌, inl, inr, ⊎_elim, ℕ, zero, suc, ◌+◌, ◌≤◌, ◌<◌, Bool, true, false, cond, List, [], ◌∷◌, ◌++◌, map, length, drop, Some, None, refl, sym, ap, ◌∙◌, subst, nat_eq, true≢false, if◌then◌else◌}
 use Rattle.std.specs.Prelude.{slice_get}
 use Rattle.mail_model.specs.Plan.{Plan}
 use Rattle.mail_model.specs.Record.{Record}
@@ -11,14 +11,12 @@ use Rattle.cluster_model.specs.Room.{Flight}
 use Rattle.cluster_model.specs.World as mail
 use Rattle.cluster_model.specs.Steps as mail_steps
 use Rattle.cluster_model.specs.Steps.Step.{Start, Post}
-use Rattle.maps_model.specs.Cluster as maps
 use Rattle.maps_model.specs.Rules as maps_rules
-use Rattle.maps_model.proofs.Lists.{same_or_apart}
 use Rattle.whole_model.specs.Whole.{Node, Slot, slot_at, with_slot, mail_slot, maps_disk_of}
 use Rattle.whole_model.specs.Whole.Life.{Up}
 use Rattle.whole_model.specs.Rules.{follows}
 use Rattle.whole_world.specs.World.{World, mail_world_of, slot_up, IsUp, FollowsAlong, Reaction, put}
-use Rattle.whole_world.specs.Steps.{Said, users_reported}
+use Rattle.whole_world.specs.Steps.{Said, HasNoneDue, step_fault}
 use Rattle.whole_world.specs.Steps.StepOutcome.{Says}
 use Rattle.whole_world.specs.Makes.{done_for_maps, Reports, MakesStep}
 use Rattle.whole_world.specs.Makes.Reports.{Sends, HasNone}
@@ -26,7 +24,6 @@ use Rattle.whole_world.specs.Makes.HearsMaps.{Hears, FailsHearing}
 use Rattle.whole_world.specs.Makes.DoesStep.{ForMessages, PostsMaps, Starts, OpensGroup, ConcludesGroup, SendsReports}
 use Rattle.whole_world.specs.Laws.{Stands}
 use Rattle.whole_world.proofs.Along.{mail_here}
-use Rattle.whole_world.proofs.Viewing.{slot_here, slot_other}
 use Rattle.object_model.specs.Mishaps.MishapKind.{Crowded}
 use Rattle.cluster_model.specs.Deeds as mail_deeds
 use Rattle.cluster_model.specs.Rules as mail_rules
@@ -36,11 +33,13 @@ use Rattle.cluster_model.specs.Makes.Posts.{NobodyUp, OfOtherEpoch, TooLate, IsH
 use Rattle.cluster_model.specs.Makes.Pushes.{Sends as MailSends, FailsPushing}
 use Rattle.cluster_model.specs.Steps.Step.{PushTo}
 use Rattle.whole_world.specs.Steps.Step.{OfMessages, ReportTo}
+use Rattle.whole_world.specs.Steps.StepFault.{Fault}
+use Rattle.std.specs.Option.{option_map}
 use Rattle.whole_world.specs.Steps.Said.{Told}
 use Rattle.whole_world.specs.Sweeps.{IsFine}
 use Rattle.whole_world.proofs.Along.{up_slot}
-use Rattle.std.proofs.Common.{arith, ◌&&◌, ◌||◌, take, flat_map, T}
-use Rattle.std.proofs.lemmas.Bool.{and_parts}
+use Rattle.std.proofs.Common.{arith, ◌&&◌, nat_lt, take, flat_map, T, Option}
+use Rattle.std.proofs.lemmas.Bool.{and_parts, lt-ltb}
 use Rattle.std.specs.Cmp.{tied_itself, Equal-is}
 use Rattle.std.specs.FinMap as fin
 use Rattle.std.specs.FinMap.Entries.{find, is_sorted, below_all}
@@ -254,10 +253,47 @@ ups_same w new same follow n x d up =
 pub le_same : (a b : ℕ) → b ≡ a → a ≤ b
 le_same a b e = omega (arith, e)
 
+-- a push that is not refused, and sends nothing where none flies, finds nothing due
+rest_none : (a : Option mail_steps.StepFault) (rest : List (Option mail_steps.StepFault)) → mail_steps.first_fault (a ∷ rest) ≡ None → mail_steps.first_fault rest ≡ None
+rest_none None rest e = e
+rest_none (Some f) rest e = absurd (cc e)
+
+last_none : (a b c d e f : Option mail_steps.StepFault) → mail_steps.first_fault (a ∷ b ∷ c ∷ d ∷ e ∷ f ∷ []) ≡ None → f ≡ None
+last_none a b c d e f none = at f (rest_none e (f ∷ []) (rest_none d (e ∷ f ∷ []) (rest_none c (d ∷ e ∷ f ∷ []) (rest_none b (c ∷ d ∷ e ∷ f ∷ []) (rest_none a (b ∷ c ∷ d ∷ e ∷ f ∷ []) none)))))
+  where
+    at : (f : Option mail_steps.StepFault) → mail_steps.first_fault (f ∷ []) ≡ None → f ≡ None
+    at None e = refl
+    at (Some f) e = absurd (cc e)
+
+not_due : (plan : Plan) (w : World) (from to : ℕ) (node : mail_cluster.Node) (disk : List Record) → mail_cluster.slot_at (mail_world_of w).slots from ≡ Some (mail_deeds.slot_up node disk)
+    → step_fault plan (OfMessages (PushTo from to)) w ≡ None → w.flying ≡ [] → keys_pushed [] from to node disk ≡ [] → due_to from to node ≡ []
+not_due plan w from to node disk up goes still none = by (due_to from to node) (ap (λ (k : List Key). nat_lt 0 (length (due_to from to node)) && nat_eq (length k) 0) (sym none) ∙ uncrowded)
+  where
+    unfaulted : (o : Option mail_steps.StepFault) → option_map Fault o ≡ None → o ≡ None
+    unfaulted None e = refl
+    unfaulted (Some f) e = absurd (cc e)
+
+    room : mail_steps.room_fault (PushTo from to) (mail_world_of w) ≡ None
+    room = last_none (mail_steps.node_name_fault plan (PushTo from to)) (mail_steps.actor_fault (PushTo from to) (mail_world_of w).slots (Some from)) (mail_steps.letter_fault (PushTo from to) w.flying)
+        (mail_steps.ticket_fault (PushTo from to) (mail_world_of w).slots) (mail_steps.worn_fault plan (PushTo from to) (mail_world_of w)) (mail_steps.room_fault (PushTo from to) (mail_world_of w))
+        (unfaulted (mail_steps.step_fault plan (PushTo from to) (mail_world_of w)) goes)
+
+    if_none : (b : Bool) → (if b then Some mail_steps.StepFault.NoRoom else None) ≡ None → b ≡ false
+    if_none true e = absurd (cc e)
+    if_none false e = refl
+
+    uncrowded : mail_steps.is_crowded_slot [] from to (mail_deeds.slot_up node disk) (mail_cluster.Life.Up node) ≡ false
+    uncrowded = ap (λ (f : List Flight). mail_steps.is_crowded_slot f from to (mail_deeds.slot_up node disk) (mail_cluster.Life.Up node)) (sym still)
+        ∙ ap (mail_steps.is_crowded_at w.flying from to) (sym up) ∙ if_none (mail_steps.is_crowded_at w.flying from to (mail_cluster.slot_at (mail_world_of w).slots from)) room
+
+    by : (keys : List Key) → (nat_lt 0 (length keys) && nat_eq 0 0) ≡ false → keys ≡ []
+    by [] e = refl
+    by (key ∷ keys) e = absurd (true≢false (sym (ap (λ b. b && true) (lt-ltb 0 (suc (length keys)) (omega arith))) ∙ e))
+
 module _ (plan : Plan) (tells : Bool) (w new : World) (stands : Stands plan w) where
   -- a push
   pub push_sent : (from to : ℕ) (said : Said) → MakesStep plan tells w (OfMessages (PushTo from to)) (Says said) new → IsFine said → w.flying ≡ []
-      → (w.sent ≤ new.sent) × (new.sent ≡ w.sent → IsSame w new × ((node : Node) (disk : List Record) → IsUp w from node disk → keys_pushed [] from to node.mail disk ≡ []))
+      → (w.sent ≤ new.sent) × (new.sent ≡ w.sent → IsSame w new × ((node : Node) (disk : List Record) → IsUp w from node disk → due_to from to node.mail ≡ []))
   push_sent from to said (fits, ForMessages one step answer says for_mail does follow) fine still =
       by (subst (λ (k : mail_steps.Step). mail_makes.DoesStep plan tells (mail_world_of w) k answer (mail_world_of new)) (inside one step) does)
     where
@@ -265,7 +301,7 @@ module _ (plan : Plan) (tells : Bool) (w new : World) (stands : Stands plan w) w
       inside k e = cc
 
       by : mail_makes.Pushes (mail_world_of w) from to answer (mail_world_of new)
-          → (w.sent ≤ new.sent) × (new.sent ≡ w.sent → IsSame w new × ((node : Node) (disk : List Record) → IsUp w from node disk → keys_pushed [] from to node.mail disk ≡ []))
+          → (w.sent ≤ new.sent) × (new.sent ≡ w.sent → IsSame w new × ((node : Node) (disk : List Record) → IsUp w from node disk → due_to from to node.mail ≡ []))
       by (FailsPushing node disk up told is) = absurd (fine from (says ∙ ap Told told))
       by (MailSends node disk up told is) =
           let written : mail.World = record (mail_world_of w) { slots = mail_cluster.with_slot (mail_world_of w).slots from (mail_deeds.slot_up node disk) } in
@@ -283,8 +319,7 @@ module _ (plan : Plan) (tells : Bool) (w new : World) (stands : Stands plan w) w
                   },
                   λ x d there. let same = slots_are (mail_slot (slot_up x d)) (mail_deeds.slot_up node disk) (mail_here w.slots from (slot_up x d) there) up in
                       let nodes : x.mail ≡ node = up_is x.mail node (ap (λ (s : mail_cluster.Slot). s.life) same) in
-                      let disks : d ≡ disk = ap (λ (s : mail_cluster.Slot). s.disk) same in
-                      (λ i. keys_pushed [] from to (nodes i) (disks i)) ∙ none,
+                      ap (due_to from to) nodes ∙ not_due plan w from to node disk up fits still none,
                 ))
                 (λ (l, more, e, room). absurd (not_below w.sent new.sent (subst (λ k. w.sent < k) (sym (sent_is ∙ ap (λ (x : List Letter). (mail.put has_room x written).sent) e)) (mail_sends l more written (ap (λ (f : List Flight). has_room f l) still ∙ room))) quiet))
                 (pushed from to node disk),
@@ -309,8 +344,8 @@ module _ (plan : Plan) (tells : Bool) (w new : World) (stands : Stands plan w) w
 
   -- a report
   pub report_sent : (from to : ℕ) (said : Said) → MakesStep plan tells w (ReportTo from to) (Says said) new → IsFine said → w.flying ≡ []
-      → (w.sent ≤ new.sent) × (new.sent ≡ w.sent → IsSame w new × ((node : Node) (disk : List Record) → IsUp w from node disk → users_reported plan [] from to node.maps ≡ []))
-  report_sent from to said (fits, SendsReports a b step h) fine still = by (subst (λ k. Reports plan w k to said new) (inside a b step).0 (subst (λ k. Reports plan w a k said new) (inside a b step).1 h))
+      → (w.sent ≤ new.sent) × (new.sent ≡ w.sent → IsSame w new × ((node : Node) (disk : List Record) → IsUp w from node disk → HasNoneDue from to node.maps))
+  report_sent from to said (fits, SendsReports a b step h) fine still = by (subst (λ k. Reports w k to said new) (inside a b step).0 (subst (λ k. Reports w a k said new) (inside a b step).1 h))
     where
       inside : (a b : ℕ) → ReportTo from to ≡ ReportTo a b → (a ≡ from) × (b ≡ to)
       inside a b e = (cc, cc)
@@ -324,15 +359,16 @@ module _ (plan : Plan) (tells : Bool) (w new : World) (stands : Stands plan w) w
           up_is : (a b : Node) → Up a ≡ Up b → a ≡ b
           up_is a b e = cc
 
-      by : Reports plan w from to said new → (w.sent ≤ new.sent) × (new.sent ≡ w.sent → IsSame w new × ((node : Node) (disk : List Record) → IsUp w from node disk → users_reported plan [] from to node.maps ≡ []))
+      by : Reports w from to said new → (w.sent ≤ new.sent) × (new.sent ≡ w.sent → IsSame w new × ((node : Node) (disk : List Record) → IsUp w from node disk → HasNoneDue from to node.maps))
       by (HasNone node disk up none says is) = (
         le_same w.sent new.sent (ap (λ (v : World). v.sent) is),
         λ quiet. (
           record { still = ap (λ (v : World). v.flying) is ∙ still; ups = λ n x d u. subst (λ (v : World). IsUp v n x d) (sym is) u },
-          λ x d there. ap (λ (k : Node). users_reported plan [] from to k.maps) (node_is x node d disk there up) ∙ ap (λ (f : List Flight). users_reported plan f from to node.maps) (sym still) ∙ none,
+          λ x d there. subst (λ (k : Node). HasNoneDue from to k.maps) (sym (node_is x node d disk there up)) none,
         ),
       )
-      by (Sends node disk up did r says is) = users (users_reported plan [] from to node.maps) refl
+      by (Sends node disk up users first some did r says is) =
+          let rises : w.sent < new.sent = sends users refl in (before w.sent new.sent rises, λ quiet. absurd (not_below w.sent new.sent rises quiet))
         where
           now : Reaction
           now = done_for_maps node disk did None did.out
@@ -343,38 +379,16 @@ module _ (plan : Plan) (tells : Bool) (w new : World) (stands : Stands plan w) w
           report_to : List ℕ → Letter
           report_to user = record { from = from; to = to; epoch = r.membership.epoch; ticket = None; body = Report (maps_rules.own_row from node.maps (maps_disk_of disk) user) }
 
-          out_is : (us : List (List ℕ)) → users_reported plan [] from to node.maps ≡ us → did.out ≡ map report_to us
-          out_is us e = ap (λ (d : maps_rules.Reaction). d.out) r.is ∙ ap (map report_to) (ap (λ (f : List Flight). users_reported plan f from to node.maps) still ∙ e)
+          sent_is : new.sent ≡ (put (map report_to users) written_world).sent
+          sent_is = ap (λ (v : World). v.sent) is ∙ ap (λ (d : maps_rules.Reaction). (put d.out written_world).sent) r.is
 
-          sent_of : (us : List (List ℕ)) → users_reported plan [] from to node.maps ≡ us → new.sent ≡ (put (map report_to us) written_world).sent
-          sent_of us e = ap (λ (v : World). v.sent) is ∙ ap (λ (l : List Letter). (put l written_world).sent) (out_is us e)
+          before : (a b : ℕ) → a < b → a ≤ b
+          before a b l = omega (arith, l)
 
-          now_same : now.node ≡ node
-          now_same =
-              let maps_are : did.node ≡ node.maps = ap (λ (d : maps_rules.Reaction). d.node) r.is in
-              let installed : did.node.installed ≡ node.mail.installed = ap (λ (k : maps.Node). k.installed) maps_are ∙ sym (stands.one_epoch.each from (slot_up node disk) up node refl) in
-              λ i. record { mail = record node.mail { installed = installed i }; maps = maps_are i }
-
-          users : (us : List (List ℕ)) → users_reported plan [] from to node.maps ≡ us
-              → (w.sent ≤ new.sent) × (new.sent ≡ w.sent → IsSame w new × ((x : Node) (d : List Record) → IsUp w from x d → users_reported plan [] from to x.maps ≡ []))
-          users [] e =
-              let world_is : new ≡ written_world = is ∙ ap (λ (l : List Letter). put l written_world) (out_is [] e) in (
-                le_same w.sent new.sent (ap (λ (v : World). v.sent) world_is),
-                λ quiet. (
-                  record {
-                    still = ap (λ (v : World). v.flying) world_is ∙ still;
-                    ups = λ n x d u. subst (λ (v : World). IsUp v n x d) (sym world_is) (⊎_elim
-                        (λ same. subst (λ k. slot_at (with_slot w.slots from (slot_up now.node now.disk)) k ≡ Some (slot_up x d)) (sym same.1)
-                        (slot_here w.slots from (slot_up node disk) (slot_up now.node now.disk) up ∙ (λ i. Some (slot_up (now_same i) (Rattle.std.proofs.Common.append-nil disk i))) ∙ sym up ∙ subst (λ k. slot_at w.slots k ≡ Some (slot_up x d)) same.1 u))
-                        (λ apart_. slot_other w.slots from n (slot_up now.node now.disk) apart_.1 ∙ u)
-                        (same_or_apart n from));
-                  },
-                  λ x d there. ap (λ (k : Node). users_reported plan [] from to k.maps) (node_is x node d disk there up) ∙ e,
-                ),
-              )
-          users (user ∷ us) e =
-              let rises : w.sent < new.sent = subst (λ k. w.sent < k) (sym (sent_of (user ∷ us) e)) (whole_sends (report_to user) (map report_to us) written_world (ap (λ (f : List Flight). has_room f (report_to user)) still)) in
-              (omega (arith, rises), λ quiet. absurd (not_below w.sent new.sent rises quiet))
+          sends : (us : List (List ℕ)) → users ≡ us → w.sent < new.sent
+          sends [] e = absurd (some e)
+          sends (user ∷ us) e = subst (λ k. w.sent < k) (sym (sent_is ∙ ap (λ (l : List (List ℕ)). (put (map report_to l) written_world).sent) e))
+              (whole_sends (report_to user) (map report_to us) written_world (ap (λ (f : List Flight). has_room f (report_to user)) still))
   report_sent from to said (fits, ForMessages one step answer says for_mail does follow) fine still = absurd (cc step)
   report_sent from to said (fits, PostsMaps number keep step h) fine still = absurd (cc step)
   report_sent from to said (fits, Starts n step h) fine still = absurd (cc step)

@@ -1,6 +1,7 @@
 -- What pushes, reports and posts leave of an epoch: who was live is live.
-use Rattle.std.proofs.Common.{◌≡◌, ◌≢◌, ⊎_elim, ℕ, zero, suc, ◌+◌, ◌<◌, Bool, true, false, List, [], ◌∷◌, ◌++◌, length, drop, Option, Some, None, refl, sym, ap, ◌∙◌, subst, if◌then◌else◌}
+use Rattle.std.proofs.Common.{◌≡◌, ◌≢◌, ◌⊎◌, inl, inr, ⊎_elim, ℕ, zero, suc, ◌+◌, ◌<◌, Bool, true, false, List, [], ◌∷◌, ◌++◌, length, drop, Option, Some, None, refl, sym, ap, ◌∙◌, subst, if◌then◌else◌}
 use Rattle.std.specs.Prelude.{slice_get}
+use Rattle.std.specs.Option.{option_map}
 use Rattle.mail_model.specs.Identity.{EpochId}
 use Rattle.mail_model.specs.Identity.Key.{Profile, Message}
 use Rattle.mail_model.specs.Plan.{Plan}
@@ -22,11 +23,11 @@ use Rattle.maps_model.specs.Rules as maps_rules
 use Rattle.maps_model.specs.Rules.HearsReport.{Stale as StaleReport, Takes, Older}
 use Rattle.maps_model.specs.Rules.HearsAck.{Stale as StaleAck, Clears, Other}
 use Rattle.maps_model.proofs.Lists.{same_or_apart}
-use Rattle.whole_model.specs.Whole.{Node, Slot, slot_at, with_slot, maps_disk_of, holds_of}
-use Rattle.whole_model.specs.Whole.Life.{Up}
+use Rattle.whole_model.specs.Whole.{Node, Life, Slot, slot_at, with_slot, maps_disk_of, holds_of}
+use Rattle.whole_model.specs.Whole.Life.{Up, Down, Lost}
 use Rattle.whole_model.specs.Rules.{differ, turned_for, followed, follows, IsMapsBody, IsMailBody}
 use Rattle.whole_world.specs.World.{World, mail_world_of, slot_up, IsUp, FollowsAlong, Reaction, after}
-use Rattle.whole_world.specs.Steps.{Said, users_reported}
+use Rattle.whole_world.specs.Steps.{Said}
 use Rattle.whole_world.specs.Steps.StepOutcome.{Says}
 use Rattle.whole_world.specs.Makes.{done_for_maps, learnt, promise_by, MakesStep, IsForMessages}
 use Rattle.whole_world.specs.Makes.Reports.{Sends, HasNone}
@@ -39,6 +40,7 @@ use Rattle.whole_world.proofs.Along.{mail_here}
 use Rattle.whole_world.proofs.Keeping.{follows_epoch, apart, of_mail}
 use Rattle.whole_world.proofs.Seeing.{put_slots, put_among}
 use Rattle.whole_world.proofs.Stepping.{makes_stand}
+use Rattle.whole_world.proofs.Returning.{plain_back, written_back}
 use Rattle.whole_world.proofs.Viewing.{slot_here, slot_other}
 use Rattle.object_model.specs.Letters.{Member}
 use Rattle.object_model.specs.Mishaps.MishapKind.{Crowded, Stale as StaleKind, Down as DownKind}
@@ -54,7 +56,8 @@ use Rattle.cluster_model.proofs.Slots as mail_slots
 use Rattle.whole_world.specs.Steps.Step.{OfMessages, ReportTo}
 use Rattle.whole_world.specs.Steps.Said.{Told}
 use Rattle.whole_world.specs.Settled.{IsLive}
-use Rattle.whole_world.specs.Sweeps.{IsFine, Flows, TellsMember, Sweeps, IsCalmBody}
+use Rattle.whole_world.specs.Regroup.{maps_in, maps_of_slot}
+use Rattle.whole_world.specs.Sweeps.{IsFine, Flows, TellsMember, Sweeps, IsCalmBody, boot_and_epoch, EpochsStay}
 use Rattle.whole_world.specs.Sweeps.Flows.{Flowed, FlowsOn}
 use Rattle.whole_world.proofs.Along.{up_slot}
 use Rattle.whole_world.proofs.Plain.{IsSoft, AllSoft, soft_missed}
@@ -170,16 +173,21 @@ pub follows_boot : (own : ℕ) (node : maps.Node) (seen records : List Record) �
 follows_boot own node seen [] = refl
 follows_boot own node seen (one ∷ records) = follows_boot own (followed own node seen one) (seen ++ one ∷ []) records ∙ followed_boot own node seen one
 
--- who was up is up, in its boot and its epoch, and letters that fly form no epoch
+-- who was up is up, in its boot and its epoch, and who is up was; and letters that fly form no epoch
 pub record Stays (old new : World) : Type 0 where
   pub ups : (n : ℕ) (node : Node) (disk : List Record) → IsUp old n node disk → (now : Node) × (its : List Record) × IsUp new n now its × (now.maps.boot ≡ node.maps.boot) × (now.maps.installed ≡ node.maps.installed)
+  pub backs : (n : ℕ) (node : Node) (disk : List Record) → IsUp new n node disk → (was : Node) × (its : List Record) × IsUp old n was its × (node.maps.boot ≡ was.maps.boot) × (node.maps.installed ≡ was.maps.installed)
   pub calm : ((letter : Letter) → Among letter (letters_of old.flying) → IsCalmBody letter.body) → (letter : Letter) → Among letter (letters_of new.flying) → IsCalmBody letter.body
 
 stays_on : (a b c : World) → Stays a b → Stays b c → Stays a c
 stays_on a b c p q = record {
   ups = λ n node disk up. let s = p.ups n node disk up in let t = q.ups n s.0 s.1 s.2 in (t.0, t.1, t.2, t.3 ∙ s.3, t.4 ∙ s.4);
+  backs = λ n node disk up. let s = q.backs n node disk up in let t = p.backs n s.0 s.1 s.2 in (t.0, t.1, t.2, s.3 ∙ t.3, s.4 ∙ t.4);
   calm = λ before. q.calm (p.calm before);
 }
+
+stays_itself : (w : World) → Stays w w
+stays_itself w = record { ups = λ n x d u. (x, d, u, refl, refl); backs = λ n x d u. (x, d, u, refl, refl); calm = λ before. before }
 
 mail_calm : (body : Body) → IsMailBody body → IsCalmBody body
 mail_calm (Group epoch) of = of
@@ -215,6 +223,14 @@ plain_stays old new plain follow keeps = record {
         ap (λ (x : maps.Node). x.boot) e ∙ follows_boot n node.maps disk (drop (length disk) k.1),
         ap (λ (x : maps.Node). x.installed) e ∙ follows_epoch n node.maps disk (drop (length disk) k.1),
       );
+  backs = λ n node disk up.
+      let was = plain_back old new plain follow n node disk up in (
+        was.before,
+        was.its,
+        was.up,
+        ap (λ (x : maps.Node). x.boot) was.maps_are ∙ follows_boot n was.before.maps was.its (drop (length was.its) disk),
+        ap (λ (x : maps.Node). x.installed) was.maps_are ∙ follows_epoch n was.before.maps was.its (drop (length was.its) disk),
+      );
   calm = λ before letter m. ⊎_elim (λ stood. before letter stood) (λ (sent : IsMailOf (mail_world_of old) letter). mail_calm letter.body sent.mail.body) (plain.letters letter m);
 }
 
@@ -234,6 +250,17 @@ turned_stays old own node disk up x same flown from did promise out boots epochs
       ))
       (λ d. (other, its, ap (λ (l : List Slot). slot_at l n) slots ∙ slot_other old.slots own n (slot_up now.node now.disk) d.1 ∙ there, refl, refl))
       (same_or_apart n own);
+  backs = λ n z its there. ⊎_elim
+      (λ is.
+      let who : now.node ≡ z = same_node now.node z (ap (λ (s : Slot). s.life) is.1) in (
+        node,
+        disk,
+        subst (λ k. IsUp old k node disk) (sym is.0) up,
+        ap (λ (k : Node). k.maps.boot) (sym who) ∙ boots,
+        ap (λ (k : Node). k.maps.installed) (sym who) ∙ epochs,
+      ))
+      (λ stood. (z, its, stood, refl, refl))
+      (written_back old.slots (after x own now).slots own (slot_up node disk) (slot_up now.node now.disk) up slots n (slot_up z its) there);
   calm = λ before letter m. ⊎_elim (λ stood. before letter (flown letter stood)) (λ sent. calm letter sent) (put_among out (record x { slots = with_slot x.slots own (slot_up now.node now.disk) }) letter m);
 }
   where
@@ -327,12 +354,12 @@ module _ (plan : Plan) (tells : Bool) (old new : World) (stands : Stands plan ol
   post_stays number said (fits, SendsReports a b step h) fine = absurd (cc step)
 
   pub report_stays : (from to : ℕ) (said : Said) → MakesStep plan tells old (ReportTo from to) (Says said) new → IsFine said → Stays old new
-  report_stays from to said (fits, SendsReports a b step (Sends node disk up did r says is)) fine = subst (Stays old) (sym is)
+  report_stays from to said (fits, SendsReports a b step (Sends node disk up users first some did r says is)) fine = subst (Stays old) (sym is)
       (turned_stays old a node disk up old refl (λ letter m. m) node did None did.out (ap (λ (k : maps_rules.Reaction). k.node.boot) r.is) (ap (λ (k : maps_rules.Reaction). k.node.installed) r.is)
-      (λ letter m. let k = among_map (λ user. record { from = a; to = b; epoch = r.membership.epoch; ticket = None; body = Report (maps_rules.own_row a node.maps (maps_disk_of disk) user) }) letter (users_reported plan old.flying a b node.maps)
+      (λ letter m. let k = among_map (λ user. record { from = a; to = b; epoch = r.membership.epoch; ticket = None; body = Report (maps_rules.own_row a node.maps (maps_disk_of disk) user) }) letter users
       (subst (λ (d : maps_rules.Reaction). Among letter d.out) r.is m) in
       subst (λ (l : Letter). IsCalmBody l.body) k.2 tt))
-  report_stays from to said (fits, SendsReports a b step (HasNone node disk up none says is)) fine = subst (Stays old) (sym is) (record { ups = λ n x d u. (x, d, u, refl, refl); calm = λ before. before })
+  report_stays from to said (fits, SendsReports a b step (HasNone node disk up none says is)) fine = subst (Stays old) (sym is) (stays_itself old)
   report_stays from to said (fits, ForMessages one step answer says for_mail does follow) fine = absurd (cc step)
   report_stays from to said (fits, PostsMaps number keep step h) fine = absurd (cc step)
   report_stays from to said (fits, Starts n step h) fine = absurd (cc step)
@@ -343,7 +370,7 @@ abbrev AllCalm : World → Type 0
 AllCalm w = (letter : Letter) → Among letter (letters_of w.flying) → IsCalmBody letter.body
 
 none_stays : (w new : World) → new ≡ w → Stays w new
-none_stays w new e = subst (Stays w) (sym e) (record { ups = λ n x d u. (x, d, u, refl, refl); calm = λ before. before })
+none_stays w new e = subst (Stays w) (sym e) (stays_itself w)
 
 pub flows_stay : (plan : Plan) (tells : Bool) (w new : World) → Flows plan tells w new → Stands plan w → AllCalm w → Stands plan new × Stays w new × (new.flying ≡ [])
 flows_stay plan tells w new (Flowed _ _ none e) stands calm = (subst (Stands plan) (sym e) stands, none_stays w new e, ap (λ (v : World). v.flying) e ∙ none)
@@ -373,8 +400,33 @@ sweeps_keep plan tells (pair ∷ pairs) w new (mid, first, rest) stands none =
     let more = sweeps_keep plan tells pairs mid new rest one.0 one.2 in
     (more.0, stays_on w mid new one.1 more.1, more.2)
 
+-- a node is up, or has no epoch that is known
+up_or_not : (w : World) (n : ℕ) → ((node : Node) × (disk : List Record) × IsUp w n node disk) ⊎ (boot_and_epoch w n ≡ None)
+up_or_not w n = by (slot_at w.slots n) refl
+  where
+    by_life : (slot : Slot) (life : Life) → slot.life ≡ life → slot_at w.slots n ≡ Some slot → ((node : Node) × (disk : List Record) × IsUp w n node disk) ⊎ (boot_and_epoch w n ≡ None)
+    by_life slot (Up node) is here = inl (node, slot.disk, here ∙ ap (λ (l : Life). Some (record { life = l; disk = slot.disk })) is)
+    by_life slot (Down pending) is here = inr (ap (λ (o : Option Slot). option_map (λ (x : maps.Node). (x.boot, x.installed)) (maps_of_slot o)) here ∙ ap (λ (l : Life). option_map (λ (x : maps.Node). (x.boot, x.installed)) (maps_in l)) is)
+    by_life slot Lost is here = inr (ap (λ (o : Option Slot). option_map (λ (x : maps.Node). (x.boot, x.installed)) (maps_of_slot o)) here ∙ ap (λ (l : Life). option_map (λ (x : maps.Node). (x.boot, x.installed)) (maps_in l)) is)
+
+    by : (o : Option Slot) → slot_at w.slots n ≡ o → ((node : Node) × (disk : List Record) × IsUp w n node disk) ⊎ (boot_and_epoch w n ≡ None)
+    by None is = inr (ap (λ (o : Option Slot). option_map (λ (x : maps.Node). (x.boot, x.installed)) (maps_of_slot o)) is)
+    by (Some slot) is = by_life slot slot.life refl is
+
+epoch_up : (w : World) (n : ℕ) (node : Node) (disk : List Record) → IsUp w n node disk → boot_and_epoch w n ≡ Some (node.maps.boot, node.maps.installed)
+epoch_up w n node disk up = ap (λ (o : Option Slot). option_map (λ (x : maps.Node). (x.boot, x.installed)) (maps_of_slot o)) up
+
+epochs_stay : (old new : World) → Stays old new → EpochsStay old new
+epochs_stay old new s n = ⊎_elim
+    (λ (node, disk, up). let k = s.ups n node disk up in epoch_up new n k.0 k.1 k.2 ∙ (λ i. Some (k.3 i, k.4 i)) ∙ sym (epoch_up old n node disk up))
+    (λ none. ⊎_elim
+    (λ (node, disk, up). let k = s.backs n node disk up in epoch_up new n node disk up ∙ (λ i. Some (k.3 i, k.4 i)) ∙ sym (epoch_up old n k.0 k.1 k.2))
+    (λ still. still ∙ sym none)
+    (up_or_not new n))
+    (up_or_not old n)
+
 pub sweeps_stay : (plan : Plan) (tells : Bool) (w new : World) (pairs : List (ℕ × ℕ)) → Stands plan w → w.flying ≡ [] → Sweeps plan tells pairs w new
-    → Stands plan new × (new.flying ≡ []) × ((g : Membership) (member : Member) → IsLive w g member → IsLive new g member)
+    → Stands plan new × (new.flying ≡ []) × ((g : Membership) (member : Member) → IsLive w g member → IsLive new g member) × EpochsStay w new
 sweeps_stay plan tells w new pairs stands none sweeps =
     let s = sweeps_keep plan tells pairs w new sweeps stands none in
-    (s.0, s.2, λ g member live. let k = s.1.ups member.node live.node live.disk live.up in record { node = k.0; disk = k.1; up = k.2; boot = k.3 ∙ live.boot; installed = k.4 ∙ live.installed })
+    (s.0, s.2, λ g member live. let k = s.1.ups member.node live.node live.disk live.up in record { node = k.0; disk = k.1; up = k.2; boot = k.3 ∙ live.boot; installed = k.4 ∙ live.installed }, epochs_stay w new s.1)

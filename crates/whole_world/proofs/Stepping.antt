@@ -41,7 +41,7 @@ use Rattle.whole_model.proofs.Following.{after_promise, after_boot}
 use Rattle.whole_model.proofs.Leading.{act_leads}
 use Rattle.whole_model.proofs.Membership.{membership_acts}
 use Rattle.whole_world.specs.World.{World, mail_world_of, maps_world_of, slot_up, IsUp, FollowsAlong, Reaction, after}
-use Rattle.whole_world.specs.Steps.{Step, Said, StepOutcome, users_reported}
+use Rattle.whole_world.specs.Steps.{Step, Said, StepOutcome}
 use Rattle.whole_world.specs.Steps.StepOutcome.{Says, Refused, NoMemory}
 use Rattle.whole_world.specs.Makes.{done_for_maps, learnt, promise_by, NodeGoesDown, Groups, Forms, Reports, HearsMaps, started, IsForMessages, DoesStep, RunsShort, MadeStep, MakesStep, MakesAll}
 use Rattle.whole_world.specs.Laws.{OneEpoch, Stands}
@@ -115,11 +115,11 @@ module _ (plan : Plan) (old : World) (stands : Stands plan old) where
       (ap (λ (r : maps_rules.Reaction). r.disk) f.concludes.is ∙ ap maps_disk_of (sym (append-nil f.disk))) (λ ready. concludes own plan.buckets f.node.maps (maps_disk_of f.disk) ready.order f.did f.concludes))
       (turned_one own (slot_up f.node f.disk) f.up old refl f.node f.disk f.did None f.did.out))
 
-  reports_stand : (own to : ℕ) (said : Said) (new : World) → Reports plan old own to said new → Stands plan new
-  reports_stand own to said new (Sends node disk up did r is new_world) = subst (Stands plan) (sym new_world) (joined plan old stands (after old own (done_for_maps node disk did None did.out))
-      (mail_turned plan old stands own node disk up did None did.out (λ letter m. report_sends own to (users_reported plan old.flying own to node.maps) node.maps (maps_disk_of disk) did r letter m))
+  reports_stand : (own to : ℕ) (said : Said) (new : World) → Reports old own to said new → Stands plan new
+  reports_stand own to said new (Sends node disk up users first some did r is new_world) = subst (Stands plan) (sym new_world) (joined plan old stands (after old own (done_for_maps node disk did None did.out))
+      (mail_turned plan old stands own node disk up did None did.out (λ letter m. report_sends own to users node.maps (maps_disk_of disk) did r letter m))
       (maps_turned plan old stands own node disk up old refl (λ letter m. m) None (λ letter e. absurd (cc e)) node refl did None did.out (λ letter m. m)
-      (ap (λ (x : maps_rules.Reaction). x.disk) r.is ∙ ap maps_disk_of (sym (append-nil disk))) (λ ready. reports own to (users_reported plan old.flying own to node.maps) node.maps (maps_disk_of disk) ready.order did r))
+      (ap (λ (x : maps_rules.Reaction). x.disk) r.is ∙ ap maps_disk_of (sym (append-nil disk))) (λ ready. reports own to users node.maps (maps_disk_of disk) ready.order did r))
       (turned_one own (slot_up node disk) up old refl node disk did None did.out))
   reports_stand own to said new (HasNone node disk up none is new_world) = unchanged new new_world
 

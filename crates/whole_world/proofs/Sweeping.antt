@@ -8,9 +8,9 @@ use Rattle.cluster_model.specs.Cluster as mail_cluster
 use Rattle.cluster_model.specs.Room.{Flight}
 use Rattle.cluster_model.specs.Steps as mail_steps
 use Rattle.cluster_model.specs.Steps.Step.{Post}
-use Rattle.whole_model.specs.Whole.{Node, slot_at, mail_slot}
+use Rattle.whole_model.specs.Whole.{Node, mail_slot}
 use Rattle.whole_world.specs.World.{World, mail_world_of, slot_up, IsUp}
-use Rattle.whole_world.specs.Steps.{users_reported}
+use Rattle.whole_world.specs.Steps.{HasNoneDue}
 use Rattle.whole_world.specs.Steps.StepOutcome.{Says}
 use Rattle.whole_world.specs.Makes.{MakesStep}
 use Rattle.whole_world.specs.Makes.Reports.{Sends, HasNone}
@@ -33,11 +33,12 @@ use Rattle.mail_model.specs.Identity.{Key}
 use Rattle.object_model.specs.UpdateLog.{Logged}
 use Rattle.cluster_model.specs.Room.{octets_of_all, fits, fitting, due_to, keys_pushed}
 use Rattle.cluster_model.specs.Steps.StepFault.{Worn}
-use Rattle.whole_world.specs.Steps.{users_due, room_left, StepFault, step_fault}
+use Rattle.whole_world.specs.Steps.{room_left, StepFault, step_fault}
+use Rattle.whole_world.specs.Makes.{FindsNoRoom}
 use Rattle.std.specs.Option.{option_map}
 use Rattle.whole_world.specs.Steps.StepFault.{Fault}
 use Rattle.whole_world.specs.Settled.{IsSettled}
-use Rattle.whole_world.specs.Sweeps.{CanSettle}
+use Rattle.whole_world.specs.Sweeps.{PushesFit, IsRefusedAsWorn}
 use Rattle.whole_world.proofs.Quieting.{settles}
 use Rattle.whole_world.proofs.Staying.{tells_stay, none_calm}
 use Rattle.whole_world.proofs.Sending.{whole_sent, first_due, due_of, IsSame, same_on, le_same, push_sent, report_sent, post_sent}
@@ -58,14 +59,14 @@ flows_none : (plan : Plan) (tells : Bool) (w new : World) → Flows plan tells w
 flows_none plan tells w new (Flowed _ _ none e) still = e
 flows_none plan tells w new (FlowsOn _ _ flight m low said mid made fine rest) still = absurd (subst (Among flight) still m)
 
-abbrev IsQuietPair : Plan → World → ℕ × ℕ → Type 0
-IsQuietPair plan w pair = (node : Node) (disk : List Record) → IsUp w pair.0 node disk → (keys_pushed [] pair.0 pair.1 node.mail disk ≡ []) × (users_reported plan [] pair.0 pair.1 node.maps ≡ [])
+abbrev IsQuietPair : World → ℕ × ℕ → Type 0
+IsQuietPair w pair = (node : Node) (disk : List Record) → IsUp w pair.0 node disk → (due_to pair.0 pair.1 node.mail ≡ []) × HasNoneDue pair.0 pair.1 node.maps
 
 tells_sent : (plan : Plan) (tells : Bool) (from to : ℕ) (w new : World) → TellsMember plan tells from to w new → Stands plan w → w.flying ≡ []
-    → (w.sent ≤ new.sent) × (new.sent ≡ w.sent → IsSame w new × IsQuietPair plan w (from, to))
+    → (w.sent ≤ new.sent) × (new.sent ≡ w.sent → IsSame w new × IsQuietPair w (from, to))
 tells_sent plan tells from to w new t stands still = (omega (arith, first.0, flown, second, third), quiet)
   where
-    first : (w.sent ≤ t.pushed.sent) × (t.pushed.sent ≡ w.sent → IsSame w t.pushed × ((node : Node) (disk : List Record) → IsUp w from node disk → keys_pushed [] from to node.mail disk ≡ []))
+    first : (w.sent ≤ t.pushed.sent) × (t.pushed.sent ≡ w.sent → IsSame w t.pushed × ((node : Node) (disk : List Record) → IsUp w from node disk → due_to from to node.mail ≡ []))
     first = push_sent plan tells w t.pushed stands from to t.push_said t.pushes t.push_fine still
 
     stands_two : Stands plan t.pushed
@@ -84,7 +85,7 @@ tells_sent plan tells from to w new t stands still = (omega (arith, first.0, flo
     second = report_rises t.reports
       where
         report_rises : MakesStep plan tells t.between (ReportTo from to) (Says t.report_said) t.reported → t.between.sent ≤ t.reported.sent
-        report_rises (fits, SendsReports a b step (Sends node disk up did r says is)) = subst (λ k. t.between.sent ≤ k) (sym (ap (λ (v : World). v.sent) is)) (whole_sent did.out _)
+        report_rises (fits, SendsReports a b step (Sends node disk up users first_due some did r says is)) = subst (λ k. t.between.sent ≤ k) (sym (ap (λ (v : World). v.sent) is)) (whole_sent did.out _)
         report_rises (fits, SendsReports a b step (HasNone node disk up none says is)) = le_same t.between.sent t.reported.sent (ap (λ (v : World). v.sent) is)
         report_rises (fits, ForMessages one step answer says for_mail does follow) = absurd (cc step)
         report_rises (fits, PostsMaps number keep step h) = absurd (cc step)
@@ -98,7 +99,7 @@ tells_sent plan tells from to w new t stands still = (omega (arith, first.0, flo
     chain : (a b c d e : ℕ) → a ≤ b → b ≤ c → c ≤ d → d ≤ e → e ≡ a → (b ≡ a) × (d ≡ c)
     chain a b c d e p q r s h = (omega (arith, p, q, r, s, h), omega (arith, p, q, r, s, h))
 
-    quiet : new.sent ≡ w.sent → IsSame w new × IsQuietPair plan w (from, to)
+    quiet : new.sent ≡ w.sent → IsSame w new × IsQuietPair w (from, to)
     quiet e =
         let c = chain w.sent t.pushed.sent t.between.sent t.reported.sent new.sent first.0 flown second third e in
         let one = first.1 c.0 in
@@ -112,7 +113,7 @@ tells_sent plan tells from to w new t stands still = (omega (arith, first.0, flo
         )
 
 sweeps_sent : (plan : Plan) (tells : Bool) (pairs : List (ℕ × ℕ)) (w new : World) → Sweeps plan tells pairs w new → Stands plan w → w.flying ≡ []
-    → (w.sent ≤ new.sent) × (new.sent ≡ w.sent → (pair : ℕ × ℕ) → Among pair pairs → IsQuietPair plan w pair)
+    → (w.sent ≤ new.sent) × (new.sent ≡ w.sent → (pair : ℕ × ℕ) → Among pair pairs → IsQuietPair w pair)
 sweeps_sent plan tells [] w new e stands still = (le_same w.sent new.sent (ap (λ (v : World). v.sent) e), λ q pair m. absurd m)
 sweeps_sent plan tells (pair ∷ pairs) w new (mid, first, rest) stands still =
     let s = tells_stay plan tells pair.0 pair.1 w mid first stands (none_calm w still) in
@@ -123,7 +124,7 @@ sweeps_sent plan tells (pair ∷ pairs) w new (mid, first, rest) stands still =
           let c = chain w.sent mid.sent new.sent one.0 more.0 e in
           let here = one.1 c.0 in
           λ other m. ⊎_elim
-          (λ is. subst (IsQuietPair plan w) is here.1)
+          (λ is. subst (IsQuietPair w) is here.1)
           (λ later. λ node disk up. more.1 c.1 other later node disk (here.0.ups other.0 node disk up))
           m,
     )
@@ -133,19 +134,13 @@ sweeps_sent plan tells (pair ∷ pairs) w new (mid, first, rest) stands still =
 
 pub sweeps_send : (plan : Plan) (tells : Bool) (w new : World) (pairs : List (ℕ × ℕ)) → Stands plan w → IsCharted plan w → w.flying ≡ [] → (g : Membership)
     → ((member : Member) → Among member g.members → IsLive w g member)
-    → ((member : Member) → Among member g.members → (node : Node) (disk : List Record) → IsUp w member.node node disk → CanSettle plan member.node node disk)
     → ((a b : Member) → Among a g.members → Among b g.members → (b.node ≡ a.node → ⊥) → Among (a.node, b.node) pairs)
     → Sweeps plan tells pairs w new → (w.sent ≤ new.sent) × (new.sent ≡ w.sent → IsSettled w g)
-sweeps_send plan tells w new pairs stands charted still g live can all sweeps =
+sweeps_send plan tells w new pairs stands charted still g live all sweeps =
     let s = sweeps_sent plan tells pairs w new sweeps stands still in (
       s.0,
-      λ e. settles plan w stands charted g still live (λ member m node disk up. (
-        can member m node disk up,
-        λ other k apart_. let q = s.1 e (member.node, other.node) (all member other m k apart_) node disk up in record {
-          pushes = ap (λ (f : List Flight). keys_pushed f member.node other.node node.mail disk) still ∙ q.0;
-          reports = ap (λ (f : List Flight). users_reported plan f member.node other.node node.maps) still ∙ q.1;
-        },
-      )),
+      λ e. settles plan w stands charted g live (λ member other m k apart_ node disk up.
+          let q = s.1 e (member.node, other.node) (all member other m k apart_) node disk up in record { pushes = q.0; reports = q.1 apart_ }),
     )
 
 -- what is refused of a sweep
@@ -192,38 +187,61 @@ mail_fault_is (Some f) b d x p q r = absurd (cc p)
 mail_fault_is None (Some f) d x p q r = absurd (cc q)
 mail_fault_is None None (Some f) x p q r = absurd (cc r)
 
-whole_fault_is : (a d : Option StepFault) (b : Option mail_steps.StepFault) (x : Bool) → a ≡ None → b ≡ None → d ≡ None
-    → (Rattle.whole_world.specs.Steps.first_refusal (a ∷ option_map Fault b ∷ option_map Fault (if x then Some Worn else None) ∷ d ∷ []) ≡ None)
-    ⊎ (Rattle.whole_world.specs.Steps.first_refusal (a ∷ option_map Fault b ∷ option_map Fault (if x then Some Worn else None) ∷ d ∷ []) ≡ Some (Fault Worn))
-whole_fault_is None None None true p q r = inr refl
-whole_fault_is None None None false p q r = inl refl
-whole_fault_is (Some f) d b x p q r = absurd (cc p)
-whole_fault_is None d (Some f) x p q r = absurd (cc q)
-whole_fault_is None (Some f) None x p q r = absurd (cc r)
+whole_fault_is : (a : Option StepFault) (b : Option mail_steps.StepFault) (x : Bool) → a ≡ None → b ≡ None
+    → (Rattle.whole_world.specs.Steps.first_refusal (a ∷ option_map Fault b ∷ option_map Fault (if x then Some Worn else None) ∷ []) ≡ None)
+    ⊎ (Rattle.whole_world.specs.Steps.first_refusal (a ∷ option_map Fault b ∷ option_map Fault (if x then Some Worn else None) ∷ []) ≡ Some (Fault Worn))
+whole_fault_is None None true p q = inr refl
+whole_fault_is None None false p q = inl refl
+whole_fault_is (Some f) b x p q = absurd (cc p)
+whole_fault_is None (Some f) x p q = absurd (cc q)
 
-pub sweep_worn : (plan : Plan) (w : World) → w.flying ≡ [] → (from to : ℕ) → mail_steps.is_node plan from ≡ true → mail_steps.is_node plan to ≡ true → (node : Node) (disk : List Record) → IsUp w from node disk → CanSettle plan from node disk
-    → ((step_fault plan (OfMessages (PushTo from to)) w ≡ None) ⊎ (step_fault plan (OfMessages (PushTo from to)) w ≡ Some (Fault Worn)))
-    × ((step_fault plan (ReportTo from to) w ≡ None) ⊎ (step_fault plan (ReportTo from to) w ≡ Some (Fault Worn)))
-sweep_worn plan w still from to f t node disk up can = (
-  mail_fault_is (mail_steps.node_name_fault plan (PushTo from to)) (mail_steps.actor_fault (PushTo from to) (mail_world_of w).slots (Some from)) (mail_steps.room_fault (PushTo from to) (mail_world_of w))
-      ((mail_steps.may_send (PushTo from to) w.flying && nat_le mail_steps.letters_end w.sent) || mail_steps.is_worn_by plan (mail_world_of w) (PushTo from to) (Some from))
-      (if_true (Rattle.std.specs.List.list_all (mail_steps.is_node plan) (from ∷ to ∷ [])) None (Some Rattle.cluster_model.specs.Steps.StepFault.NoSuchNode) (both (mail_steps.is_node plan from) (mail_steps.is_node plan to) f t))
-      (ap (mail_steps.slot_fault (PushTo from to)) seen)
-      (if_false (mail_steps.is_crowded_at w.flying from to (mail_cluster.slot_at (mail_world_of w).slots from)) (Some Rattle.cluster_model.specs.Steps.StepFault.NoRoom) None
-      (ap (mail_steps.is_crowded_at w.flying from to) seen ∙ ap (λ (k : List Flight). mail_steps.is_crowded_slot k from to (mail_slot (slot_up node disk)) (mail_cluster.Life.Up node.mail)) still ∙ not_crowded from to node.mail disk (can.light to))),
-  whole_fault_is (Rattle.whole_world.specs.Steps.node_fault plan (from ∷ to ∷ [])) (Rattle.whole_world.specs.Steps.by_slot (Rattle.whole_world.specs.Steps.report_fault plan w from to) (slot_at w.slots from)) (Rattle.whole_world.specs.Steps.actor_fault from w)
-      (nat_le mail_steps.letters_end w.sent)
-      (if_true (mail_steps.is_node plan from) _ (Some (Fault Rattle.cluster_model.specs.Steps.StepFault.NoSuchNode)) f ∙ if_true (mail_steps.is_node plan to) None (Some (Fault Rattle.cluster_model.specs.Steps.StepFault.NoSuchNode)) t)
-      (ap (mail_steps.slot_fault (PushTo from from)) seen)
-      (ap (Rattle.whole_world.specs.Steps.by_slot (Rattle.whole_world.specs.Steps.report_fault plan w from to)) up
-      ∙ if_false (nat_lt 0 (length (users_due plan from to node.maps)) && nat_eq (room_left w.flying) 0) (Some (Fault Rattle.cluster_model.specs.Steps.StepFault.NoRoom)) None
-      (ap (λ (k : List Flight). nat_lt 0 (length (users_due plan from to node.maps)) && nat_eq (room_left k) 0) still ∙ and_false (nat_lt 0 (length (users_due plan from to node.maps))))),
-)
+-- so whatever it is refused for is that
+worn_alone : (o : Option StepFault) (fault : StepFault) → (o ≡ None) ⊎ (o ≡ Some (Fault Worn)) → o ≡ Some fault → fault ≡ Fault Worn
+worn_alone o fault (inl none) e = absurd (clash fault (sym none ∙ e))
   where
-    seen : mail_cluster.slot_at (mail_world_of w).slots from ≡ Some (mail_slot (slot_up node disk))
-    seen = mail_here w.slots from (slot_up node disk) up
+    clash : (fault : StepFault) → None ≡ Some fault → ⊥
+    clash fault e = cc
+worn_alone o fault (inr worn) e = same fault (Fault Worn) (sym e ∙ worn)
+  where
+    same : (a b : StepFault) → Some a ≡ Some b → a ≡ b
+    same a b e = cc
 
-    both : (a b : Bool) → a ≡ true → b ≡ true → (a && (b && true)) ≡ true
-    both true true p q = refl
-    both true false p q = absurd (true≢false (sym q))
-    both false b p q = absurd (true≢false (sym p))
+module _ (plan : Plan) (w : World) (still : w.flying ≡ []) (from to : ℕ) (f : mail_steps.is_node plan from ≡ true) (t : mail_steps.is_node plan to ≡ true) (node : Node) (disk : List Record) (up : IsUp w from node disk) where
+  seen : mail_cluster.slot_at (mail_world_of w).slots from ≡ Some (mail_slot (slot_up node disk))
+  seen = mail_here w.slots from (slot_up node disk) up
+
+  both : (a b : Bool) → a ≡ true → b ≡ true → (a && (b && true)) ≡ true
+  both true true p q = refl
+  both true false p q = absurd (true≢false (sym q))
+  both false b p q = absurd (true≢false (sym p))
+
+  pub push_worn : PushesFit from to node disk → IsRefusedAsWorn plan w (OfMessages (PushTo from to))
+  push_worn light tells fault new (why, same) = ⊎_elim
+      (λ faults. worn_alone (step_fault plan (OfMessages (PushTo from to)) w) fault worn faults)
+      (λ more. ⊎_elim (λ (none, is, start). is) (λ (none, is, crowded). absurd crowded) more)
+      why
+    where
+      worn : (step_fault plan (OfMessages (PushTo from to)) w ≡ None) ⊎ (step_fault plan (OfMessages (PushTo from to)) w ≡ Some (Fault Worn))
+      worn = mail_fault_is (mail_steps.node_name_fault plan (PushTo from to)) (mail_steps.actor_fault (PushTo from to) (mail_world_of w).slots (Some from)) (mail_steps.room_fault (PushTo from to) (mail_world_of w))
+          ((mail_steps.may_send (PushTo from to) w.flying && nat_le mail_steps.letters_end w.sent) || mail_steps.is_worn_by plan (mail_world_of w) (PushTo from to) (Some from))
+          (if_true (Rattle.std.specs.List.list_all (mail_steps.is_node plan) (from ∷ to ∷ [])) None (Some Rattle.cluster_model.specs.Steps.StepFault.NoSuchNode) (both (mail_steps.is_node plan from) (mail_steps.is_node plan to) f t))
+          (ap (mail_steps.slot_fault (PushTo from to)) seen)
+          (if_false (mail_steps.is_crowded_at w.flying from to (mail_cluster.slot_at (mail_world_of w).slots from)) (Some Rattle.cluster_model.specs.Steps.StepFault.NoRoom) None
+          (ap (mail_steps.is_crowded_at w.flying from to) seen ∙ ap (λ (k : List Flight). mail_steps.is_crowded_slot k from to (mail_slot (slot_up node disk)) (mail_cluster.Life.Up node.mail)) still ∙ not_crowded from to node.mail disk light))
+
+  pub report_worn : IsRefusedAsWorn plan w (ReportTo from to)
+  report_worn tells fault new (why, same) = ⊎_elim
+      (λ faults. worn_alone (step_fault plan (ReportTo from to) w) fault worn faults)
+      (λ more. ⊎_elim (λ (none, is, start). is) (λ (none, is, crowded). absurd (roomy (sym (ap room_left still) ∙ full_of crowded))) more)
+      why
+    where
+      worn : (step_fault plan (ReportTo from to) w ≡ None) ⊎ (step_fault plan (ReportTo from to) w ≡ Some (Fault Worn))
+      worn = whole_fault_is (Rattle.whole_world.specs.Steps.node_fault plan (from ∷ to ∷ [])) (Rattle.whole_world.specs.Steps.actor_fault from w) (nat_le mail_steps.letters_end w.sent)
+          (if_true (mail_steps.is_node plan from) _ (Some (Fault Rattle.cluster_model.specs.Steps.StepFault.NoSuchNode)) f ∙ if_true (mail_steps.is_node plan to) None (Some (Fault Rattle.cluster_model.specs.Steps.StepFault.NoSuchNode)) t)
+          (ap (mail_steps.slot_fault (PushTo from from)) seen)
+
+      full_of : FindsNoRoom w from to → room_left w.flying ≡ 0
+      full_of c = c.full
+
+      roomy : room_left [] ≡ 0 → ⊥
+      roomy e = omega (arith, e)

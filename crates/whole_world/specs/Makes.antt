@@ -1,5 +1,5 @@
 -- What each step makes of a whole world, by what it answers.
-use Rattle.std.specs.Prelude.{◌≡◌, ◌⊎◌, ◌≤◌, ℕ, ◌+◌, Bool, false, List, [], ◌∷◌, ◌++◌, reverse, length, map, Option, Some, None, if◌then◌else◌}
+use Rattle.std.specs.Prelude.{◌≡◌, ◌≢◌, ◌⊎◌, ◌≤◌, ℕ, ◌+◌, Bool, false, List, [], ◌∷◌, ◌++◌, reverse, length, map, Option, Some, None, if◌then◌else◌}
 use Rattle.mail_model.specs.Identity.{EpochId}
 use Rattle.mail_model.specs.Plan.{Plan}
 use Rattle.mail_model.specs.Record.{Record}
@@ -14,7 +14,7 @@ use Rattle.cluster_model.specs.Thrown.{Why, with_stamps, is_stale}
 use Rattle.cluster_model.specs.World as mail
 use Rattle.cluster_model.specs.Steps as mail_steps
 use Rattle.cluster_model.specs.Steps.Step.{Post, Form, Start}
-use Rattle.cluster_model.specs.Steps.StepFault.{Worn}
+use Rattle.cluster_model.specs.Steps.StepFault.{Worn, NoRoom}
 use Rattle.cluster_model.specs.Steps.Said.{Heard, Thrown, Sent, NodeUp, Faulted}
 use Rattle.cluster_model.specs.Makes as mail_makes
 use Rattle.maps_model.specs.Cluster as maps
@@ -24,7 +24,7 @@ use Rattle.whole_model.specs.Whole.Life.{Down}
 use Rattle.whole_model.specs.Rules.{IsMailBody, IsMapsBody, promise_records}
 use Rattle.whole_world.specs.World.{World, mail_world_of, slot_up, IsUp, FollowsAlong, Reaction, after, cut_world}
 use Rattle.whole_world.specs.Thrown.{is_before, refused_by}
-use Rattle.whole_world.specs.Steps.{Step, Said, StepOutcome, step_fault, users_reported}
+use Rattle.whole_world.specs.Steps.{Step, Said, StepOutcome, room_left, most_at_once, AreFirstDue, HasDue, HasNoneDue, step_fault}
 use Rattle.whole_world.specs.Steps.Step.{OfMessages, OpenGroup, ConcludeGroup, ReportTo}
 use Rattle.whole_world.specs.Steps.Said.{Told, Grouped, Concluded}
 use Rattle.whole_world.specs.Steps.StepFault.{Fault}
@@ -75,14 +75,20 @@ pub record Forms (plan : Plan) (old : World) (own : ℕ) (said : Said) (new : Wo
   pub said_is : said ≡ Concluded concludes.group.epoch (mail_cluster.set_of_members (map (λ join. join.member) concludes.group.joins))
   pub new_world : new ≡ after old own (done_for_maps node disk did None did.out)
 
--- A node reports. Where nothing is due, or it has no epoch, nothing is sent.
-pub data Reports (plan : Plan) (old : World) (own to : ℕ) (said : Said) (new : World) : Type 0 where
-  Sends : (node : Node) (disk : List Record) → IsUp old own node disk → (did : maps_rules.Reaction)
-      → maps_rules.Reports own to (users_reported plan old.flying own to node.maps) node.maps (maps_disk_of disk) did
-      → said ≡ Told (Sent (length (users_reported plan old.flying own to node.maps))) → new ≡ after old own (done_for_maps node disk did None did.out)
-      → Reports plan old own to said new
-  HasNone : (node : Node) (disk : List Record) → IsUp old own node disk → users_reported plan old.flying own to node.maps ≡ [] → said ≡ Told (Sent 0) → new ≡ old
-      → Reports plan old own to said new
+-- A node reports the first rows that are due to another node, as many as go at once. Where none is due nothing is sent.
+pub data Reports (old : World) (own to : ℕ) (said : Said) (new : World) : Type 0 where
+  Sends : (node : Node) (disk : List Record) → IsUp old own node disk → (users : List (List ℕ)) → AreFirstDue to (most_at_once old.flying) node.maps users → users ≢ [] → (did : maps_rules.Reaction)
+      → maps_rules.Reports own to users node.maps (maps_disk_of disk) did → said ≡ Told (Sent (length users)) → new ≡ after old own (done_for_maps node disk did None did.out)
+      → Reports old own to said new
+  HasNone : (node : Node) (disk : List Record) → IsUp old own node disk → HasNoneDue own to node.maps → said ≡ Told (Sent 0) → new ≡ old → Reports old own to said new
+
+-- some row is due, and there is no room for one letter
+pub record FindsNoRoom (w : World) (own to : ℕ) : Type 0 where
+  pub node : Node
+  pub disk : List Record
+  pub up : IsUp w own node disk
+  pub due : HasDue own to node.maps
+  pub full : room_left w.flying ≡ 0
 
 -- what is said of a letter that was not stale
 abbrev pub said_of : Option Why → Said
@@ -140,7 +146,7 @@ pub data DoesStep (plan : Plan) (tells : Bool) (old : World) (step : Step) (said
   Starts : (n : ℕ) → step ≡ OfMessages (Start n) → StartsUp plan old n said new → DoesStep plan tells old step said new
   OpensGroup : (n : ℕ) → step ≡ OpenGroup n → Groups plan old n said new → DoesStep plan tells old step said new
   ConcludesGroup : (n : ℕ) → step ≡ ConcludeGroup n → Forms plan old n said new → DoesStep plan tells old step said new
-  SendsReports : (from to : ℕ) → step ≡ ReportTo from to → Reports plan old from to said new → DoesStep plan tells old step said new
+  SendsReports : (from to : ℕ) → step ≡ ReportTo from to → Reports old from to said new → DoesStep plan tells old step said new
 
 -- Memory ran out in a step that had begun its work: some records are written, and the node is down. A conclusion writes none. A letter that was posted stays in flight.
 pub data RunsShort (plan : Plan) (old : World) (step : Step) (n : ℕ) (new : World) : Type 0 where
@@ -158,15 +164,20 @@ pub data RunsShort (plan : Plan) (old : World) (step : Step) (n : ℕ) (new : Wo
       → NodeGoesDown old n disk (promise_records promise) new
       → RunsShort plan old step n new
 
--- A step is refused where it has a fault, and where a start is worn, and then changes nothing. Out of memory has no cause that is told.
+-- A step is refused where it has a fault, where a start is worn, and where a Report has no room, and then changes nothing. Out of memory has no cause that is told.
 abbrev pub StartIsWorn : World → Step → Type 0
 StartIsWorn old (OfMessages step) = mail_makes.StartIsWorn (mail_world_of old) step
 StartIsWorn old step = ⊥
 
+abbrev pub ReportHasNoRoom : World → Step → Type 0
+ReportHasNoRoom old (ReportTo from to) = FindsNoRoom old from to
+ReportHasNoRoom old step = ⊥
+
 abbrev pub MakesStep : Plan → Bool → World → Step → StepOutcome → World → Type 0
 MakesStep plan tells old step (Says said) new = (step_fault plan step old ≡ None) × DoesStep plan tells old step said new
 MakesStep plan tells old step (Refused fault) new =
-    ((step_fault plan step old ≡ Some fault) ⊎ ((step_fault plan step old ≡ None) × (fault ≡ Fault Worn) × StartIsWorn old step)) × (new ≡ old)
+    ((step_fault plan step old ≡ Some fault) ⊎ ((step_fault plan step old ≡ None) × (fault ≡ Fault Worn) × StartIsWorn old step)
+    ⊎ ((step_fault plan step old ≡ None) × (fault ≡ Fault NoRoom) × ReportHasNoRoom old step)) × (new ≡ old)
 MakesStep plan tells old step (NoMemory None) new = new ≡ old
 MakesStep plan tells old step (NoMemory (Some n)) new = RunsShort plan old step n new
 

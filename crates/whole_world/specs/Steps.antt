@@ -1,10 +1,13 @@
 -- What can be done with a whole world, what it answers, and what is refused.
-use Rattle.std.specs.Prelude.{ℕ, ◌-◌, ◌/◌, ◌^◌, Bool, ◌&&◌, nat_eq, nat_le, nat_lt, min, List, [], ◌∷◌, length, map, take, Option, Some, None, if◌then◌else◌}
-use Rattle.std.specs.FinMap.{entries}
-use Rattle.std.specs.List.{filter}
+use Rattle.std.specs.Prelude.{◌≡◌, ◌≢◌, ◌⊎◌, ◌≤◌, ℕ, ◌-◌, ◌/◌, ◌^◌, Bool, true, false, ◌&&◌, nat_le, nat_lt, min, List, [], ◌∷◌, length, Option, Some, None, if◌then◌else◌}
+use Rattle.std.specs.Cmp.Lexicographic.{slice_cmp}
+use Rattle.std.specs.List.Sorted.{IsStrictlySortedBy}
 use Rattle.std.specs.Option.{option_map}
+use Rattle.std.specs.Ordering.{nat_cmp}
+use Rattle.std.specs.declared.cmp.Ordering.TheVariants.{Less}
 use Rattle.mail_model.specs.Identity.{EpochId}
 use Rattle.mail_model.specs.Plan.{Plan}
+use Rattle.object_model.specs.Lists.{Among}
 use Rattle.cluster_model.specs.Steps as mail
 use Rattle.cluster_model.specs.Steps.Step.{PushTo}
 use Rattle.cluster_model.specs.Steps.StepFault.{NoSuchNode, Worn, NoRoom}
@@ -35,10 +38,6 @@ pub data StepOutcome : Type 0 where
   Refused : (fault : StepFault) → StepOutcome
   NoMemory : (down : Option ℕ) → StepOutcome
 
--- the users of the plan in order of names
-abbrev pub names_of : Plan → List (List ℕ)
-names_of plan = map (λ entry. entry.0) (entries plan.users)
-
 -- a Report sends at most so many letters
 abbrev pub most_reports : ℕ
 most_reports = 64
@@ -51,13 +50,24 @@ is_due to node user = node.marked user && maps.manages_in node.installed to user
 abbrev pub room_left : List Flight → ℕ
 room_left flying = min (most_letters - length flying) ((most_octets - octets_flying flying) / 64)
 
--- the users whose rows are due to another node
-abbrev pub users_due : Plan → ℕ → ℕ → maps.Node → List (List ℕ)
-users_due plan own to node = if nat_eq to own then [] else take most_reports (filter (is_due to node) (names_of plan))
+-- how many Reports go at once
+abbrev pub most_at_once : List Flight → ℕ
+most_at_once flying = min (room_left flying) most_reports
 
--- and of these as many as there is room for
-abbrev pub users_reported : Plan → List Flight → ℕ → ℕ → maps.Node → List (List ℕ)
-users_reported plan flying own to node = take (room_left flying) (users_due plan own to node)
+-- The first users whose rows are due to that manager, so many at most, whether or not the plan has them: each is due, they stand in order of names, and whoever else is due comes after all of them. Where they are fewer, nobody else is due.
+pub record AreFirstDue (to most : ℕ) (node : maps.Node) (users : List (List ℕ)) : Type 0 where
+  pub due : (user : List ℕ) → Among user users → is_due to node user ≡ true
+  pub in_order : IsStrictlySortedBy (slice_cmp nat_cmp) users
+  pub few : length users ≤ most
+  pub others : (user : List ℕ) → is_due to node user ≡ true → Among user users ⊎ ((length users ≡ most) × ((one : List ℕ) → Among one users → slice_cmp nat_cmp one user ≡ Less))
+
+-- some row is due to another node,
+abbrev pub HasDue : ℕ → ℕ → maps.Node → Type 0
+HasDue own to node = (to ≢ own) × (user : List ℕ) × (is_due to node user ≡ true)
+
+-- or none is. Without an epoch none is, and none ever is to the node itself.
+abbrev pub HasNoneDue : ℕ → ℕ → maps.Node → Type 0
+HasNoneDue own to node = to ≢ own → (user : List ℕ) → is_due to node user ≡ false
 
 -- the node that acts
 abbrev pub actor_fault : ℕ → World → Option mail.StepFault
@@ -83,7 +93,7 @@ abbrev pub group_fault : Option maps.OpenGroup → Option StepFault
 group_fault None = Some NotAGroup
 group_fault (Some group) = None
 
--- what is refused of an opening and a conclusion of a group, and of a Report, by the state of the node
+-- what is refused of an opening and a conclusion of a group, by the state of the node
 abbrev pub open_fault : Plan → World → Life → Option StepFault
 open_fault plan w (Up node) = if nat_le greatest_epoch node.maps.heard then Some (Fault Worn) else if nat_lt (room_left w.flying) (plan.nodes - 1) then Some (Fault NoRoom) else None
 open_fault plan w life = None
@@ -91,10 +101,6 @@ open_fault plan w life = None
 abbrev pub conclude_fault : World → Life → Option StepFault
 conclude_fault w (Up node) = first_refusal (group_fault node.maps.group ∷ option_map Fault (letters_worn w) ∷ (if nat_lt (room_left w.flying) (group_size node.maps.group - 1) then Some (Fault NoRoom) else None) ∷ [])
 conclude_fault w life = None
-
-abbrev pub report_fault : Plan → World → ℕ → ℕ → Life → Option StepFault
-report_fault plan w own to (Up node) = if nat_lt 0 (length (users_due plan own to node.maps)) && nat_eq (room_left w.flying) 0 then Some (Fault NoRoom) else None
-report_fault plan w own to life = None
 
 abbrev pub by_slot : (Life → Option StepFault) → Option Slot → Option StepFault
 by_slot fault None = None
@@ -104,10 +110,9 @@ abbrev pub node_fault : Plan → List ℕ → Option StepFault
 node_fault plan [] = None
 node_fault plan (n ∷ ns) = if mail.is_node plan n then node_fault plan ns else Some (Fault NoSuchNode)
 
--- why a step is refused, if it is: the first that applies. Numbers of rows that are used up are left out here.
+-- Why a step is refused, if it is: the first that applies. That a Report has no room is told by its rows, and stands with what it does. Numbers of rows that are used up are left out here.
 abbrev pub step_fault : Plan → Step → World → Option StepFault
 step_fault plan (OfMessages step) w = option_map Fault (mail.step_fault plan step (mail_world_of w))
 step_fault plan (OpenGroup n) w = first_refusal (node_fault plan (n ∷ []) ∷ option_map Fault (actor_fault n w) ∷ option_map Fault (letters_worn w) ∷ by_slot (open_fault plan w) (slot_at w.slots n) ∷ [])
 step_fault plan (ConcludeGroup n) w = first_refusal (node_fault plan (n ∷ []) ∷ option_map Fault (actor_fault n w) ∷ by_slot (conclude_fault w) (slot_at w.slots n) ∷ [])
-step_fault plan (ReportTo from to) w =
-    first_refusal (node_fault plan (from ∷ to ∷ []) ∷ option_map Fault (actor_fault from w) ∷ option_map Fault (letters_worn w) ∷ by_slot (report_fault plan w from to) (slot_at w.slots from) ∷ [])
+step_fault plan (ReportTo from to) w = first_refusal (node_fault plan (from ∷ to ∷ []) ∷ option_map Fault (actor_fault from w) ∷ option_map Fault (letters_worn w) ∷ [])

@@ -1,6 +1,7 @@
 -- How an epoch settles: members push and report to one another, and all letters are posted, until nothing is left to tell.
-use Rattle.std.specs.Prelude.{◌≡◌, ◌≢◌, ◌⊎◌, ◌≤◌, ◌<◌, ℕ, Bool, true, false, List, [], ◌∷◌, length, Option, Some, None}
+use Rattle.std.specs.Prelude.{◌≡◌, ◌≢◌, ◌≤◌, ◌<◌, ℕ, Bool, true, false, List, [], ◌∷◌, length, Option, Some}
 use Rattle.std.specs.FinMap as fin
+use Rattle.std.specs.Option.{option_map}
 use Rattle.mail_model.specs.Identity.{Key, State}
 use Rattle.mail_model.specs.Plan.{Plan}
 use Rattle.mail_model.specs.Record.{Record}
@@ -11,7 +12,7 @@ use Rattle.object_model.specs.Letters.{Member, Membership, Body, Letter}
 use Rattle.object_model.specs.Letters.Body.{PushAck, Group, Join, Install}
 use Rattle.cluster_model.specs.Cluster as mail
 use Rattle.cluster_model.specs.Rules as mail_rules
-use Rattle.cluster_model.specs.Room.{Flight, octets_of_all, keys_pushed, most_octets}
+use Rattle.cluster_model.specs.Room.{Flight, octets_of_all, due_to, most_octets}
 use Rattle.cluster_model.specs.Steps.Step.{Post, PushTo}
 use Rattle.cluster_model.specs.Steps.Said.{Faulted}
 use Rattle.cluster_model.specs.World.{letters_of}
@@ -21,14 +22,15 @@ use Rattle.whole_model.specs.Whole.{Node}
 use Rattle.whole_world.specs.World.{World, IsUp}
 use Rattle.cluster_model.specs.Steps.{is_node}
 use Rattle.cluster_model.specs.Steps.StepFault.{Worn}
-use Rattle.whole_world.specs.Steps.{Said, names_of, users_reported, step_fault}
+use Rattle.whole_world.specs.Steps.{Step, Said, StepFault, is_due}
 use Rattle.whole_world.specs.Steps.StepFault.{Fault}
 use Rattle.whole_world.specs.Steps.Step.{OfMessages, ReportTo}
 use Rattle.whole_world.specs.Steps.Said.{Told}
-use Rattle.whole_world.specs.Steps.StepOutcome.{Says}
+use Rattle.whole_world.specs.Steps.StepOutcome.{Says, Refused}
 use Rattle.whole_world.specs.Makes.{MakesStep, MadeStep, MakesAll}
 use Rattle.whole_world.specs.Laws.{Stands}
 use Rattle.whole_world.specs.Settled.{IsLive, IsSettled, IsKnownEpoch, unopened_world}
+use Rattle.whole_world.specs.Regroup.{maps_at}
 
 -- no disk fails
 abbrev pub IsFine : Said → Type 0
@@ -60,9 +62,9 @@ Sweeps plan tells [] w new = new ≡ w
 Sweeps plan tells (pair ∷ pairs) w new = (mid : World) × TellsMember plan tells pair.0 pair.1 w mid × Sweeps plan tells pairs mid new
 
 -- nothing of this node is due to that one
-pub record IsQuietTo (plan : Plan) (w : World) (from to : ℕ) (node : Node) (disk : List Record) : Type 0 where
-  pub pushes : keys_pushed w.flying from to node.mail disk ≡ []
-  pub reports : users_reported plan w.flying from to node.maps ≡ []
+pub record IsQuietTo (from to : ℕ) (node : Node) : Type 0 where
+  pub pushes : due_to from to node.mail ≡ []
+  pub reports : (user : List ℕ) → is_due to node.maps user ≡ false
 
 -- What settling counts on beside the invariants: no row is due at a node that manages the user itself, and each epoch has a manager for each bucket.
 pub record IsCharted (plan : Plan) (w : World) : Type 0 where
@@ -76,17 +78,11 @@ StepsChart = (plan : Plan) (tells : Bool) (old new : World) (steps : List MadeSt
 abbrev pub OpeningIsCharted : Type 0
 OpeningIsCharted = (plan : Plan) → IsCharted plan (unopened_world plan.nodes)
 
--- each push fits into an empty flight, and a row that is due is of a user of the plan
-pub record CanSettle (plan : Plan) (own : ℕ) (node : Node) (disk : List Record) : Type 0 where
-  pub light : (to : ℕ) (key : Key) (entry : Logged) → fin.get node.mail.log key ≡ Some entry
-      → octets_of_all (mail_rules.push_of own to (mail.epoch_of node.mail) disk key (Some entry)) ≤ most_octets
-  pub of_plan : (user : List ℕ) → node.maps.marked user ≡ true → Among user (names_of plan)
-
--- Where all members are live, no letter is in flight, and no member has anything due to another, the epoch is settled. So a sweep over an epoch that is not settled sends a letter.
+-- Where all members are live and no member has anything due to another, the epoch is settled.
 abbrev pub QuietIsSettled : Type 0
-QuietIsSettled = (plan : Plan) (w : World) → Stands plan w → IsCharted plan w → (g : Membership) → w.flying ≡ [] → ((member : Member) → Among member g.members → IsLive w g member)
-    → ((member : Member) → Among member g.members → (node : Node) (disk : List Record) → IsUp w member.node node disk → CanSettle plan member.node node disk
-    × ((other : Member) → Among other g.members → other.node ≢ member.node → IsQuietTo plan w member.node other.node node disk))
+QuietIsSettled = (plan : Plan) (w : World) → Stands plan w → IsCharted plan w → (g : Membership) → ((member : Member) → Among member g.members → IsLive w g member)
+    → ((member other : Member) → Among member g.members → Among other g.members → other.node ≢ member.node → (node : Node) (disk : List Record) → IsUp w member.node node disk
+    → IsQuietTo member.node other.node node)
     → IsSettled w g
 
 -- a letter that forms no epoch
@@ -105,6 +101,10 @@ abbrev pub FlowsStay : Type 0
 FlowsStay = (plan : Plan) (tells : Bool) (w new : World) (g : Membership) → Stands plan w → NoLaterInstall w g → Flows plan tells w new
     → Stands plan new × (new.flying ≡ []) × ((member : Member) → IsLive w g member → IsLive new g member)
 
+-- And what is known of epochs once they are posted was known before.
+abbrev pub FlowsBringNoEpoch : Type 0
+FlowsBringNoEpoch = (plan : Plan) (tells : Bool) (w new : World) → Stands plan w → Flows plan tells w new → (g : Membership) → IsKnownEpoch new g → IsKnownEpoch w g
+
 -- A settling: all members are live; all letters are posted; and sweeps follow until the epoch is settled.
 pub data SettlesSo (plan : Plan) (tells : Bool) (g : Membership) (pairs : List (ℕ × ℕ)) : World → World → Type 0 where
   Settled : (w new : World) → IsSettled w g → new ≡ w → SettlesSo plan tells g pairs w new
@@ -121,24 +121,38 @@ abbrev pub SettleSettles : Type 0
 SettleSettles = (plan : Plan) (tells : Bool) (old new : World) (g : Membership) (pairs : List (ℕ × ℕ)) → Stands plan old → NoLaterInstall old g → SettlesEpoch plan tells g pairs old new
     → Stands plan new × IsSettled new g × (new.flying ≡ [])
 
--- Whatever is pushed and reported and posted in sweeps, where no disk fails: no letter is left in flight, and who was live is live.
+-- the boot of a node that is up, and what it has installed
+abbrev pub boot_and_epoch : World → ℕ → Option (ℕ × Option Membership)
+boot_and_epoch w n = option_map (λ (node : maps.Node). (node.boot, node.installed)) (maps_at w n)
+
+-- the same nodes are up, each in its boot and its epoch
+abbrev pub EpochsStay : World → World → Type 0
+EpochsStay old new = (n : ℕ) → boot_and_epoch new n ≡ boot_and_epoch old n
+
+-- Whatever is pushed and reported and posted in sweeps, where no disk fails: no letter is left in flight, who was live is live, and each node's boot and epoch stay.
 abbrev pub SweepsStay : Type 0
 SweepsStay = (plan : Plan) (tells : Bool) (w new : World) (pairs : List (ℕ × ℕ)) → Stands plan w → w.flying ≡ [] → Sweeps plan tells pairs w new
-    → Stands plan new × (new.flying ≡ []) × ((g : Membership) (member : Member) → IsLive w g member → IsLive new g member)
+    → Stands plan new × (new.flying ≡ []) × ((g : Membership) (member : Member) → IsLive w g member → IsLive new g member) × EpochsStay w new
 
 -- A sweep sends letters, and so uses up numbers; or the epoch was settled. So sweeps come to an end.
 abbrev pub SweepsSend : Type 0
 SweepsSend = (plan : Plan) (tells : Bool) (w new : World) (pairs : List (ℕ × ℕ)) → Stands plan w → IsCharted plan w → w.flying ≡ [] → (g : Membership)
     → ((member : Member) → Among member g.members → IsLive w g member)
-    → ((member : Member) → Among member g.members → (node : Node) (disk : List Record) → IsUp w member.node node disk → CanSettle plan member.node node disk)
     → ((a b : Member) → Among a g.members → Among b g.members → b.node ≢ a.node → Among (a.node, b.node) pairs)
     → Sweeps plan tells pairs w new → (w.sent ≤ new.sent) × (new.sent ≡ w.sent → IsSettled w g)
 
--- In an empty flight a push and a report of a node that is up are refused as worn, or not at all.
+-- each push to that node fits into an empty flight
+abbrev pub PushesFit : ℕ → ℕ → Node → List Record → Type 0
+PushesFit own to node disk = (key : Key) (entry : Logged) → fin.get node.mail.log key ≡ Some entry → octets_of_all (mail_rules.push_of own to (mail.epoch_of node.mail) disk key (Some entry)) ≤ most_octets
+
+-- a step is refused as worn, or not at all
+abbrev pub IsRefusedAsWorn : Plan → World → Step → Type 0
+IsRefusedAsWorn plan w step = (tells : Bool) (fault : StepFault) (new : World) → MakesStep plan tells w step (Refused fault) new → fault ≡ Fault Worn
+
+-- In an empty flight a push that fits, and a report, of a node that is up are refused as worn, or not at all.
 abbrev pub SweepIsWorn : Type 0
-SweepIsWorn = (plan : Plan) (w : World) → w.flying ≡ [] → (from to : ℕ) → is_node plan from ≡ true → is_node plan to ≡ true → (node : Node) (disk : List Record) → IsUp w from node disk → CanSettle plan from node disk
-    → ((step_fault plan (OfMessages (PushTo from to)) w ≡ None) ⊎ (step_fault plan (OfMessages (PushTo from to)) w ≡ Some (Fault Worn)))
-    × ((step_fault plan (ReportTo from to) w ≡ None) ⊎ (step_fault plan (ReportTo from to) w ≡ Some (Fault Worn)))
+SweepIsWorn = (plan : Plan) (w : World) → w.flying ≡ [] → (from to : ℕ) → is_node plan from ≡ true → is_node plan to ≡ true → (node : Node) (disk : List Record) → IsUp w from node disk
+    → (PushesFit from to node disk → IsRefusedAsWorn plan w (OfMessages (PushTo from to))) × IsRefusedAsWorn plan w (ReportTo from to)
 
 -- A push is acknowledged whatever its receiver holds.
 abbrev pub PushIsAcked : Type 0

@@ -3,8 +3,9 @@ ghost use Rattle.whole_world.specs.Laws.{StepsKeep};
 ghost use Rattle.whole_world.specs.Seen.{MessagesSeeSteps};
 ghost use Rattle.whole_world.specs.Worked.{OneNodeRegroups};
 ghost use Rattle.whole_world.specs.Epochs.{EpochsBegin, BeginsAnew, PostIsWorn, StaleChangesNothing};
-ghost use Rattle.whole_world.specs.First.{FirstStands};
-ghost use Rattle.whole_world.specs.Sweeps.{QuietIsSettled, PushIsAcked, AckClears, StepsChart, OpeningIsCharted, SweepsStay, SweepsSend, SweepIsWorn, FlowsStay, SettleSettles};
+ghost use Rattle.whole_world.specs.First.{FirstStands, FirstIsCharted, FirstIsSettled};
+ghost use Rattle.whole_world.specs.Reporting.{FirstDueAreFound, FirstDueAreOne, ReportsGo, ReportsAreOne};
+ghost use Rattle.whole_world.specs.Sweeps.{QuietIsSettled, PushIsAcked, AckClears, StepsChart, OpeningIsCharted, SweepsStay, SweepsSend, SweepIsWorn, FlowsStay, FlowsBringNoEpoch, SettleSettles};
 ghost use Rattle.whole_world.specs.Regroup.{RegroupForms};
 ghost use Rattle.whole_world.specs.Settled.{OpeningStands, OneMapPerEpoch, PromisesStand, MapsNameFragments, HoldsHere, MembersAgree};
 
@@ -26,6 +27,36 @@ pub fn opening_stands()
 /// Both invariants hold where a cluster opens in its first epoch.
 pub fn first_stands()
     ensures { FirstStands }
+{}
+
+/// The first epoch is settled where a cluster opens in it.
+pub fn first_is_settled()
+    ensures { FirstIsSettled }
+{}
+
+/// In it, too, no row is due at a node that manages the user itself, and each epoch has a manager for each bucket.
+pub fn first_is_charted()
+    ensures { FirstIsCharted }
+{}
+
+/// Whoever goes through the marked users in order of names finds the first that are due to a manager.
+pub fn first_due_are_found()
+    ensures { FirstDueAreFound }
+{}
+
+/// The first users that are due to a manager are one list.
+pub fn first_due_are_one()
+    ensures { FirstDueAreOne }
+{}
+
+/// A Report sends something, finds nothing due, or is refused.
+pub fn reports_go()
+    ensures { ReportsGo }
+{}
+
+/// What a Report comes to is one thing alone.
+pub fn reports_are_one()
+    ensures { ReportsAreOne }
 {}
 
 /// All memberships of one epoch are equal.
@@ -83,7 +114,7 @@ pub fn opening_is_charted()
     ensures { OpeningIsCharted }
 {}
 
-/// Sweeps leave no letter in flight, and who was live is live.
+/// Sweeps leave no letter in flight, and each node's boot and epoch stay; so who was live is live.
 pub fn sweeps_stay()
     ensures { SweepsStay }
 {}
@@ -108,7 +139,7 @@ pub fn post_is_worn()
     ensures { PostIsWorn }
 {}
 
-/// In an empty flight a push and a report are refused as worn, or not at all.
+/// In an empty flight a push that fits and a report are refused as worn, or not at all.
 pub fn sweep_is_worn()
     ensures { SweepIsWorn }
 {}
@@ -121,6 +152,11 @@ pub fn stale_changes_nothing()
 /// Once all letters are posted, who was live in an epoch is live, where no Install was of a later one.
 pub fn flows_stay()
     ensures { FlowsStay }
+{}
+
+/// What is known of epochs once all letters are posted was known before.
+pub fn flows_bring_no_epoch()
+    ensures { FlowsBringNoEpoch }
 {}
 
 /// A settling leaves the epoch settled, with no letter in flight.

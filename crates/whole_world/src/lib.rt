@@ -19,12 +19,13 @@
 //! - `Thrown`: why a node throws a letter, in the order in which the causes are tried.
 //! - `Steps`, `Makes`: what can be done, why it is refused, and what each step makes of a world, by what
 //!   it says.
+//! - `Reporting`: what a Report comes to, which is one thing alone.
 //! - `Seen`: which step of `cluster_model` messages see each step as.
 //! - `Laws`: what stays, whatever steps are made and whatever comes of them.
 //! - `Epochs`: how an epoch begins at a node, how a cluster is opened, what a post is refused for.
 //! - `Settled`: live members and settled epochs; one map for each epoch; maps name fragments; members
 //!   agree.
-//! - `First`: a cluster that opens in its first epoch, with all nodes of the plan as members.
+//! - `First`: a cluster that opens in its first epoch, with all nodes of the plan as members. It is settled.
 //! - `Regroup`: the rounds of letters by which a node forms an epoch, and what they come to.
 //! - `Sweeps`: the pushes and reports by which an epoch settles, and that they come to an end.
 //! - `Worked`: one node starts over an empty disk and regroups.
@@ -51,9 +52,10 @@
 mod laws;
 
 pub use laws::{
-    ack_clears, begins_anew, epochs_begin, first_stands, flows_stay, holds_here,
+    ack_clears, begins_anew, epochs_begin, first_due_are_found, first_due_are_one,
+    first_is_charted, first_is_settled, first_stands, flows_bring_no_epoch, flows_stay, holds_here,
     maps_name_fragments, members_agree, messages_see_steps, one_map_per_epoch, one_node_regroups,
     opening_is_charted, opening_stands, post_is_worn, promises_stand, push_is_acked,
-    quiet_is_settled, regroup_forms, settle_settles, stale_changes_nothing, steps_chart,
-    steps_keep, sweep_is_worn, sweeps_send, sweeps_stay,
+    quiet_is_settled, regroup_forms, reports_are_one, reports_go, settle_settles,
+    stale_changes_nothing, steps_chart, steps_keep, sweep_is_worn, sweeps_send, sweeps_stay,
 };

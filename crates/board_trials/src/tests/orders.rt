@@ -6,8 +6,8 @@ ghost use Rattle.shard_board.specs.Boards.{quota_of, IsPassOf};
 use super::{CARRY, Cluster, Pass, count, digit, made, node, opened};
 use crate::fresh::{message, name};
 use call_tickets::{Answer, Ask, Call, DeskFault, Posted};
-use cluster_world::{BookSum, Regroup, Said, StepFault};
-use mail_base::{MsgId, NodeNo, Ticket};
+use cluster_world::{BookSum, Regroup, Said, Settle, StepFault};
+use mail_base::{MsgId, NodeNo, NodeSet, Ticket};
 use shard_board::{Order, Told};
 use std::alloc::{AllocError, Global};
 use std::sync::Wait;
@@ -124,6 +124,24 @@ fn told_regroup(came: &Regroup) -> [u8; 2] {
     }
 }
 
+fn told_settle(came: &Settle) -> [u8; 2] {
+    match came {
+        Settle::Settled => *b"se",
+        Settle::NotAllUp(node) => [b'a', digit(u64::from(node.number()))],
+        Settle::Fault(node) => [b'!', digit(u64::from(node.number()))],
+    }
+}
+
+fn told_map(map: &Option<(NodeNo, NodeSet)>) -> [u8; 2] {
+    match map {
+        Some((manager, named)) => [
+            digit(u64::from(manager.number())),
+            digit(u64::from(named.mask())),
+        ],
+        None => *b"no",
+    }
+}
+
 fn told_sum(sum: &BookSum) -> [u8; 2] {
     [digit(sum.acked), digit(sum.lost)]
 }
@@ -133,6 +151,8 @@ pub(super) fn told_order(came: &Result<Told, StepFault>) -> [u8; 2] {
     match came {
         Ok(Told::Said(said)) => told_said(said),
         Ok(Told::Regrouped(came)) => told_regroup(came),
+        Ok(Told::Settled(came)) => told_settle(came),
+        Ok(Told::Mapped(map)) => told_map(map),
         Ok(Told::Sum(sum)) => told_sum(sum),
         Err(fault) => told_fault(*fault),
     }
@@ -265,6 +285,9 @@ fn order_of(alloc: Global, what: u8, first: u8, second: u8) -> Result<Order, All
         b'L' => Order::Lose(one),
         b'R' => Order::Regroup(one),
         b'>' => Order::Push { from: one, to: two },
+        b'^' => Order::Report { from: one, to: two },
+        b'E' => Order::Settle,
+        b'M' => Order::Maps(name(alloc, b"ann")?),
         b'W' => Order::Widen {
             at: one,
             user: name(alloc, b"ann")?,

@@ -14,7 +14,7 @@ use std::alloc::{AllocError, Global};
 use std::test::Fail;
 
 /// A cluster of four nodes, in which two have to confirm a message, and two have a copy.
-fn four(alloc: Global) -> Result<World<MemoryDisk>, OpenFault>
+pub(super) fn four(alloc: Global) -> Result<World<MemoryDisk>, OpenFault>
     ensures { IfOk result (λ world. CanMakeSteps octets_told world) }
 {
     open_fresh(alloc, plan_of(alloc, 4, 2)?, 0, 0)

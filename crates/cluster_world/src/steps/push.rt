@@ -92,7 +92,7 @@ fn push_in<D: Disk>(
 }
 
 /// The letters of a node are put in flight, and it is said how many they were.
-fn send_pushed<D: Disk>(
+pub(crate) fn send_pushed<D: Disk>(
     alloc: Global,
     nodes: &mut Nodes<D>,
     flying: &mut Flying,

@@ -33,11 +33,19 @@ fn formed(alloc: Global) -> Result<Trial, AllocError> {
 // How many nodes a node names that hold messages of the user, by what it was told.
 fn named(trial: &Trial, number: u8, user: &Name) -> Result<u32, AllocError> {
     let place = trial.place(number)?;
-    let maps = &trial.sites[place].maps;
-    match maps.group().installed() {
-        Some(install) => Ok(maps.rows().named(user, install.members.as_slice()).count()),
-        None => Err(AllocError),
+    Ok(trial.sites[place].maps.named(user).count())
+}
+
+// The sum of the nodes to which a row of node 3 is due.
+fn owed(trial: &Trial) -> Result<u8, AllocError> {
+    let place = trial.place(3)?;
+    let mut sum = 0u8;
+    for number in 1..4u8 {
+        if trial.sites[place].maps.owes_rows(node(number)?) {
+            sum = sum.saturating_add(number);
+        }
     }
+    Ok(sum)
 }
 
 // How many nodes the three name together.
@@ -74,14 +82,17 @@ fn is_clear(trial: &Trial) -> Result<bool, AllocError> {
     Ok(trial.sites[place].maps.reports().is_clear())
 }
 
-// What node 3 sent, how many holders the nodes name, and whether nothing is due, once node 3 has a message of the user.
-fn told(alloc: Global, user: &Name) -> Result<(usize, u32, bool), AllocError> {
+// To whom a row of node 3 is due once it has a message of the user, and then what it sent, how many holders the nodes name, and to
+// whom a row is due still.
+fn told(alloc: Global, user: &Name) -> Result<(u8, usize, u32, u8), AllocError> {
     let mut trial = formed(alloc)?;
     let id = MsgId::new(node(3)?, 1, 1).ok_or(AllocError)?;
     let place = trial.place(3)?;
     notes(&mut trial.sites[place], user, id, true)?;
+    let owed_first = owed(&trial)?;
     let sent = settles(&mut trial)?;
-    Ok((sent, named_by_all(&trial, user)?, is_clear(&trial)?))
+    let left = owed(&trial)?;
+    Ok((owed_first, sent, named_by_all(&trial, user)?, left))
 }
 
 // Bucket 0 is node 1's and bucket 1 is node 2's: node 3 reports each of its rows once, to the manager alone.
@@ -90,11 +101,16 @@ fn a_row_reaches_its_manager(rt: HostRuntime) -> Result<(), Fail> {
     let Ok(user) = Name::read(rt.alloc(), b"ann") else {
         panic!(rt; "no name");
     };
-    assert!(rt; told(rt.alloc(), &user) == Ok((1, 1, true)));
+    assert!(rt; told(rt.alloc(), &user) == Ok((1, 1, 1, 0)));
+    let Ok(other) = Name::read(rt.alloc(), b"alice") else {
+        panic!(rt; "no name");
+    };
+    assert!(rt; told(rt.alloc(), &other) == Ok((2, 1, 1, 0)));
     Ok(())
 }
 
-// The same, where node 3 found the message on its disk before the epoch was formed.
+// What node 3 sent, how many holders the nodes name, and whether nothing is due, where it found the message on its disk before the
+// epoch was formed.
 fn found(alloc: Global, user: &Name) -> Result<(usize, u32, bool), AllocError> {
     let mut trial = Trial::new(alloc)?;
     let id = MsgId::new(node(3)?, 1, 1).ok_or(AllocError)?;

@@ -1,8 +1,8 @@
 // Assignments that were worked by hand.
-use mail_base::{EpochId, NodeNo};
+use mail_base::{EpochId, MapRow, Name, NodeNo};
 use std::alloc::{AllocError, Global};
 use std::test::Fail;
-use user_map::{Claim, Member, UserMap, assign};
+use user_map::{Claim, Member, UserMap, assign, manager, manages};
 
 // Claims of a node, a bucket and the count of the epoch since when.
 fn claims_of(alloc: Global, parts: &[(u8, u32, u64)]) -> Result<Vec<Claim>, AllocError> {
@@ -97,5 +97,46 @@ fn assigns_as_by_hand(rt: HostRuntime) -> Result<(), Fail> {
             &[(2, 9), (5, 9)]
         )?
     );
+    Ok(())
+}
+
+// A map whose buckets these nodes manage, one each.
+fn map_of(alloc: Global, managers: &[u8]) -> Result<UserMap, AllocError> {
+    let mut rows = Vec::new(alloc);
+    for number in managers {
+        let node = NodeNo::new(*number).ok_or(AllocError)?;
+        rows.push(MapRow::new(node, EpochId::new(1, 1)))?;
+    }
+    Ok(UserMap::from_rows(rows))
+}
+
+// The number of the user's manager, 0 where there is none; `manages` has to say the same of each node.
+fn manager_in(alloc: Global, managers: &[u8], user: &[u8]) -> Result<u8, AllocError> {
+    let map = map_of(alloc, managers)?;
+    let name = Name::spelt(alloc, user)?.ok_or(AllocError)?;
+    let found = manager(&map, &name);
+    for number in 1..17u8 {
+        let node = NodeNo::new(number).ok_or(AllocError)?;
+        if manages(&map, node, &name) != (found == Some(node)) {
+            return Err(AllocError);
+        }
+    }
+    match found {
+        Some(node) => Ok(node.number()),
+        None => Ok(0),
+    }
+}
+
+// Of five buckets ann has the second, bob the third and alice the fourth; of two ann has the first and alice the second.
+#[test]
+fn users_have_managers(rt: HostRuntime) -> Result<(), Fail> {
+    let alloc = rt.alloc();
+    assert!(rt; manager_in(alloc, &[7, 1, 2, 3, 9], b"ann") == Ok(1));
+    assert!(rt; manager_in(alloc, &[7, 1, 2, 3, 9], b"bob") == Ok(2));
+    assert!(rt; manager_in(alloc, &[7, 1, 2, 3, 9], b"alice") == Ok(3));
+    assert!(rt; manager_in(alloc, &[16, 4], b"ann") == Ok(16));
+    assert!(rt; manager_in(alloc, &[16, 4], b"alice") == Ok(4));
+    // a map without buckets
+    assert!(rt; manager_in(alloc, &[], b"ann") == Ok(0));
     Ok(())
 }

@@ -48,6 +48,7 @@ fn a_round_clears_a_mark(rt: HostRuntime) -> Result<(), Fail> {
     };
     let mut reports = Reports::new(rt.alloc());
     assert!(rt; reports.is_clear());
+    assert!(rt; !reports.is_due(&map, two));
     assert!(rt; reports.mark_user(&bob) == Ok(1));
     assert!(rt; reports.mark_user(&ann) == Ok(1));
     assert!(rt; reports.mark_user(&bob) == Ok(2));
@@ -64,10 +65,14 @@ fn a_round_clears_a_mark(rt: HostRuntime) -> Result<(), Fail> {
         panic!(rt; "out of memory");
     };
     assert!(rt; none.is_empty());
+    assert!(rt; reports.is_due(&map, two));
+    assert!(rt; !reports.is_due(&map, one));
     assert!(rt; !reports.report_acknowledged(&bob, 1));
     assert!(rt; reports.report_acknowledged(&bob, 2));
     assert!(rt; !reports.report_acknowledged(&bob, 2));
+    assert!(rt; reports.is_due(&map, two));
     reports.told(&ann);
+    assert!(rt; !reports.is_due(&map, two));
     assert!(rt; reports.is_clear());
     assert!(rt; reports.version(&ann) == 1);
     Ok(())

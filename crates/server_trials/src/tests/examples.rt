@@ -608,9 +608,89 @@ say 2 QUIT
 end
 ";
 
+const SETTLE: &[u8] = b"\
+nodes 3
+copies 2 1
+buckets 1
+user alice tanstaaf
+user carol open sesame
+postmaster alice
+go
+open smtp 1
+  1 220 node1 Porcupine ready
+say 1 HELO c.example
+  1 250 node1
+say 1 MAIL FROM:<bob@b.example>
+  1 250 sender ok
+say 1 RCPT TO:<alice>
+  1 250 recipient ok
+say 1 DATA
+  1 354 end with a line that is a single period
+say 1 one
+say 1 .
+  1 250 stored
+drop 1
+maps alice
+  * maps alice at 1: 1
+push 1
+  * sent 1
+flow
+  * flowed
+maps alice
+  * maps alice at 1: 1
+report 2
+  * sent 1
+flow
+  * flowed
+maps alice
+  * maps alice at 1: 1 2
+maps carol
+  * maps carol at 1:
+lose 1
+  * node 1 lost
+  1 421 node1 down
+  * 1 closed
+settle
+  * not-all-up 1
+maps alice
+  * maps alice none
+regroup 2
+  * epoch 2.2 members 2 3
+maps alice
+  * maps alice at 2: 2
+settle
+  * settled
+maps alice
+  * maps alice at 2: 2
+open smtp 3
+  2 220 node3 Porcupine ready
+say 2 HELO c.example
+  2 250 node3
+say 2 MAIL FROM:<bob@b.example>
+  2 250 sender ok
+say 2 RCPT TO:<alice>
+  2 250 recipient ok
+say 2 RCPT TO:<carol>
+  2 250 recipient ok
+say 2 DATA
+  2 354 end with a line that is a single period
+say 2 two
+say 2 .
+  2 250 stored
+settle
+  * settled
+maps alice
+  * maps alice at 2: 2 3
+maps carol
+  * maps carol at 2: 2 3
+end
+";
+
 #[test]
 fn each_example_is_answered_as_its_file_says(rt: HostRuntime) -> Result<(), Fail> {
-    for lines in [FIRST, READING, EXTENDED, DAY, RESTART, LOST_NODE, REGROUP] {
+    for lines in [
+        FIRST, READING, EXTENDED, DAY, RESTART, LOST_NODE, REGROUP, SETTLE,
+    ] {
         each_case(&rt, rt.alloc(), b"", lines)?;
     }
     Ok(())

@@ -189,6 +189,55 @@ S2@9
 <221 node2 closing
 ";
 
+// The latest epoch settles, as long as its members are live, and each user's manager names who has mail of the user.
+const SETTLES: &[u8] = b"\
+C
+@3
+>maps ann
+<*0 maps ann at 1: 1 2
+>settle
+<*0 settled
+>maps ann
+<*0 maps ann at 1: 1 2
+>maps ALICE@Example.ORG\r
+<*0 maps alice@example.org at 1:
+>maps bob
+<! line 5 BadLine
+>maps
+<! line 6 BadLine
+>settle 1
+<! line 7 BadLine
+>lose 1
+<*0 node 1 lost
+>maps ann
+<*0 maps ann none
+>settle
+<*0 not-all-up 1
+>group 3
+<*0 epoch 2.3 members 2 3
+>settle
+<*0 settled
+>maps ann
+<*0 maps ann at 2: 2
+>stop
+S1
+<220 node1 Porcupine ready
+>HELO c.example
+<250 node1
+>MAIL FROM:<bob@b.example>
+<250 sender ok
+>RCPT TO:<ann>
+<250 recipient ok
+>DATA
+<354 end with a line that is a single period
+>a text
+>.
+<250 stored
+>QUIT
+<221 node1 closing
+!3
+";
+
 // How a service ended whose console ended at this line, without `stop`.
 fn early(line: u64) -> ServiceEnd {
     ServiceEnd::Served {
@@ -268,5 +317,24 @@ fn those_that_are_left_take_mail(rt: HostRuntime) -> Result<(), Fail> {
         confirmers(last, b"ann", 1).max(confirmers(last, b"ann", 2)),
         2
     );
+    Ok(())
+}
+
+#[test]
+fn the_latest_epoch_settles(rt: HostRuntime) -> Result<(), Fail> {
+    let alloc = rt.alloc();
+    let plan = plan(alloc, 3, 2, 2)?;
+    let Ok(world) = opened(alloc, 3, 2, 2, 0, 0) else {
+        panic!(rt; "no world");
+    };
+    let signals = Signals::new();
+    let outside = Outside {
+        text: SETTLES,
+        ..SOUND
+    };
+    let (end, world) = serves(&rt, alloc, outside, &plan, &signals, world)?;
+    agrees_wholly(&rt, &signals, SETTLES);
+    assert_eq!(rt; end, STOPPED);
+    assert_eq!(rt; counts(&world.sum()), [1, 0, 0, 1]);
     Ok(())
 }

@@ -32,6 +32,12 @@ fn widening(
     Ok(text)
 }
 
+fn mapping(alloc: Global, user: &Name) -> Result<Vec<u8>, AllocError> {
+    let mut text = Vec::from_slice(alloc, b"maps ")?;
+    text.extend_from_slice(user.octets())?;
+    Ok(text)
+}
+
 fn of_move(alloc: Global, order: &ClusterOrder) -> Result<Vec<u8>, AllocError> {
     match order {
         ClusterOrder::Crash { node } => worded(alloc, b"crash", *node, b""),
@@ -46,6 +52,9 @@ fn of_move(alloc: Global, order: &ClusterOrder) -> Result<Vec<u8>, AllocError> {
         ClusterOrder::Group { node } => worded(alloc, b"group", *node, b""),
         ClusterOrder::Conclude { node } => worded(alloc, b"conclude", *node, b""),
         ClusterOrder::Regroup { node } => worded(alloc, b"regroup", *node, b""),
+        ClusterOrder::Report { node } => worded(alloc, b"report", *node, b""),
+        ClusterOrder::Settle => Vec::from_slice(alloc, b"settle"),
+        ClusterOrder::Maps { user } => mapping(alloc, user),
         ClusterOrder::Tick { seconds } => worded(alloc, b"tick", *seconds, b""),
         ClusterOrder::Sum => Vec::from_slice(alloc, b"sum"),
     }
@@ -75,7 +84,7 @@ fn read_as(alloc: Global, line: &[u8]) -> Result<Vec<u8>, AllocError> {
 }
 
 // Run lines, and what each is read as.
-const TAKEN: [(&[u8], &[u8]); 43] = [
+const TAKEN: [(&[u8], &[u8]); 54] = [
     (b"open smtp 2\r", b"smtp 2:"),
     (b"open smtp 0", b"smtp 0:"),
     (b"open pop 2\r", b"pop 2:"),
@@ -120,6 +129,20 @@ const TAKEN: [(&[u8], &[u8]); 43] = [
     (b"conclude 16\r", b"conclude 16:"),
     (b"regroup 0", b"regroup 0:"),
     (b"regroup 00000000000000000002", b"regroup 2:"),
+    (b"report 2", b"report 2:"),
+    (b"report 0\r", b"report 0:"),
+    (
+        b"report 18446744073709551615",
+        b"report 18446744073709551615:",
+    ),
+    (b"settle", b"settle"),
+    (b"settle\r", b"settle"),
+    (b"maps alice", b"maps alice"),
+    (b"maps ALICE\r", b"maps alice"),
+    (b"maps Alice@Example.ORG", b"maps alice@example.org"),
+    (b"maps 7", b"maps 7"),
+    (b"maps a:1\\", b"maps a:1\\"),
+    (b"maps none", b"maps none"),
     (b"giveup 12\r", b"giveup 12:"),
     (b"widen 1 alice 2.3.4 5", b"widen 1:alice 2.3.4 5"),
     (
@@ -140,7 +163,7 @@ const TAKEN: [(&[u8], &[u8]); 43] = [
 ];
 
 // Lines of no form.
-const REFUSED: [&[u8]; 91] = [
+const REFUSED: [&[u8]; 109] = [
     b"open sm",
     b"open pop",
     b"open pop ",
@@ -205,6 +228,24 @@ const REFUSED: [&[u8]; 91] = [
     b"conclude x",
     b"regroup  1",
     b"re group 1",
+    b"report",
+    b"report ",
+    b"report  1",
+    b"report 1 2",
+    b"report x",
+    b"reports 1",
+    b"settle ",
+    b"settle 1",
+    b"settles",
+    b"SETTLE",
+    b"maps",
+    b"maps ",
+    b"maps  alice",
+    b"maps alice ",
+    b"maps alice bob",
+    b"maps @lice",
+    b"maps <alice>",
+    b"Maps alice",
     b"giveup",
     b"giveup x",
     b"give up 1",

@@ -187,6 +187,7 @@ impl Trial {
                 self.sites[place].report(self.alloc, to, &mut self.flying, out)
             }
             b'l' => self.sites[place].look(out),
+            b'q' => self.sites[place].owe(out),
             _ => {
                 let ann = named(self.alloc, b"ann")?;
                 self.sites[place].name(&ann, out)

@@ -11,8 +11,8 @@ ghost use Rattle.whole_trials.specs.Able.{octets_told, IsAble, left_by};
 use super::says::{one, say_epoch, say_letters, say_members, say_why};
 use call_tickets::Call;
 use mail_base::{
-    Body, Deliver, EpochId, Letter, Name, Names, NodeNo, NodeSet, Octets, Plan, Sequence, Stamp,
-    Ticket, Users,
+    Body, Deliver, EpochId, Letter, Name, Names, NodeNo, Octets, Plan, Sequence, Stamp, Ticket,
+    Users,
 };
 use membership::Install;
 use node_core::{Node, NodeFault, Outbox};
@@ -362,17 +362,8 @@ fn say_started(node: &WholeNode, out: &mut Vec<u8>) -> Result<(), AllocError> {
     say_epoch(out, node.maps().group().promise())
 }
 
-// Whom the node names as having mail of the user.
-fn named_by(node: &WholeNode, user: &Name) -> NodeSet {
-    let maps = node.maps();
-    match maps.group().installed() {
-        Some(install) => maps.rows().named(user, install.members.as_slice()),
-        None => NodeSet::empty(),
-    }
-}
-
 fn say_named(node: &WholeNode, user: &Name, out: &mut Vec<u8>) -> Result<(), AllocError> {
-    let set = named_by(node, user);
+    let set = node.named(user);
     if set.count() == 0 {
         return out.extend_from_slice(b" none");
     }
@@ -385,6 +376,23 @@ fn say_named(node: &WholeNode, user: &Name, out: &mut Vec<u8>) -> Result<(), All
         }
     }
     Ok(())
+}
+
+// To whom a row of the node is due, and whether it owes nobody anything.
+fn say_owed(node: &WholeNode, out: &mut Vec<u8>) -> Result<(), AllocError> {
+    out.push(b' ')?;
+    for number in 1..4u8 {
+        if let Some(other) = NodeNo::new(number) {
+            if node.owes_rows(other) {
+                out.push(one(u64::from(number)))?;
+            }
+        }
+    }
+    if node.is_settled() {
+        out.extend_from_slice(b"settled")
+    } else {
+        out.extend_from_slice(b"-")
+    }
 }
 
 impl Site {
@@ -533,6 +541,14 @@ impl Site {
     pub(crate) fn name(&self, user: &Name, out: &mut Vec<u8>) -> Result<(), AllocError> {
         match &self.node {
             Some(node) => say_named(node, user, out),
+            None => out.extend_from_slice(b" down"),
+        }
+    }
+
+    /// Writes to whom it owes rows, and whether it has settled.
+    pub(crate) fn owe(&self, out: &mut Vec<u8>) -> Result<(), AllocError> {
+        match &self.node {
+            Some(node) => say_owed(node, out),
             None => out.extend_from_slice(b" down"),
         }
     }

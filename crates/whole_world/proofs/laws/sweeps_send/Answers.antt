@@ -2,4 +2,4 @@ use Rattle.whole_world.proofs.Sweeping.{sweeps_send as law}
 use Rattle.whole_world.proofs.laws.sweeps_send.Goals as goal
 
 pub returns : goal.returns
-returns c = λ plan tells w new pairs stands charted still g live can all sweeps. law plan tells w new pairs stands charted still g live can all sweeps
+returns c = λ plan tells w new pairs stands charted still g live all sweeps. law plan tells w new pairs stands charted still g live all sweeps

@@ -6,18 +6,18 @@ use Rattle.cluster_world.proofs.world.World.flow.Goals as goal
 pub returns-in_err-node-clause-flowed : goal.returns-in_err-node-clause-flowed
 returns-in_err-node-clause-flowed g c =
     let p = err_from_is_err_and c.from_residual.result c.from_residual.ensures.1 in
-    rw (p.1, p.2) (posted_then _ _ _ _ _ _ c.loop-letter.invariant.posted (sym c.first.ensures ∙ c.in-Some.is, c.in_err-node.ensures.is))
+    rw (p.1, p.2) (posted_then _ _ _ _ _ _ c.loop-letter.invariant.posted (sym c.first.ensures.first ∙ c.in-Some.is, c.first.ensures.order, c.in_err-node.ensures.is))
 
 pub returns-in-Faulted-clause-flowed : goal.returns-in-Faulted-clause-flowed
 returns-in-Faulted-clause-flowed g c =
-    posted_until _ _ _ _ _ _ c.loop-letter.invariant.posted (sym c.first.ensures ∙ c.in-Some.is, rw c.in-Faulted.is at c.in_ok-node.ensures.is)
+    posted_until _ _ _ _ _ _ c.loop-letter.invariant.posted (sym c.first.ensures.first ∙ c.in-Some.is, c.first.ensures.order, rw c.in-Faulted.is at c.in_ok-node.ensures.is)
 
 pub loop-letter-preserved : goal.loop-letter-preserved
 loop-letter-preserved g c = record {
   ready = c.step.ensures.ready;
-  posted = one_more_posted _ _ _ _ _ _ c.loop-letter.invariant.posted (sym c.first.ensures ∙ c.in-Some.is, c.in_ok-node.ensures.is) (delivered c.in-Some.letter _ c.in_ok-node.ensures.is.did.kind c.in_default-2.not-Faulted);
+  posted = one_more_posted _ _ _ _ _ _ c.loop-letter.invariant.posted (sym c.first.ensures.first ∙ c.in-Some.is, c.first.ensures.order, c.in_ok-node.ensures.is) (delivered c.in-Some.letter _ c.in_ok-node.ensures.is.did.kind c.in_default-2.not-Faulted);
   settled = λ s. c.step.ensures.settled (c.loop-letter.invariant.settled s);
 }
 
 pub returns-clause-flowed : goal.returns-clause-flowed
-returns-clause-flowed g c = all_posted _ _ _ c.loop-letter.invariant.posted (none_first _ (sym c.first.ensures ∙ c.in_default.is))
+returns-clause-flowed g c = all_posted _ _ _ c.loop-letter.invariant.posted (none_first _ (sym c.first.ensures.first ∙ c.in_default.is))

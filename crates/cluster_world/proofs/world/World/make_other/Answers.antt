@@ -64,6 +64,11 @@ returns-in-Conclude-clause-did g c =
     subst (λ s. StepDid (view_of g.D.Disk.seen g.D.Disk.faults g.D.Disk.clock) c.conclude_node.result s (state_of c.args.self.now) (state_with c.conclude_node.new.nodes c.conclude_node.new.flying c.args.self.now.seconds c.conclude_node.new.book))
     (sym c.in-Conclude.is) (c.conclude_node.ensures.did c.args.self.now.seconds)
 
+pub returns-in-Report-clause-did : goal.returns-in-Report-clause-did
+returns-in-Report-clause-did g c =
+    subst (λ s. StepDid (view_of g.D.Disk.seen g.D.Disk.faults g.D.Disk.clock) c.report_rows.result s (state_of c.args.self.now) (state_with c.report_rows.new.nodes c.report_rows.new.flying c.args.self.now.seconds c.args.self.now.book))
+    (sym c.in-Report.is) (c.report_rows.ensures.did c.args.self.now.seconds c.args.self.now.book)
+
 pub returns-in-Ask-clause-sure : goal.returns-in-Ask-clause-sure
 returns-in-Ask-clause-sure g c =
     subst (λ s. IsSurelyDone (state_of c.args.self.now) s c.ask_for.result) (sym c.in-Ask.is) (c.ask_for.ensures.sure c.args.self.now.flying c.args.self.now.seconds)
@@ -104,6 +109,11 @@ pub returns-in-Drop-clause-installs : goal.returns-in-Drop-clause-installs
 returns-in-Drop-clause-installs g c =
     let flights = c.args.self.now.flying.flights in
     nobody_added c.args.step.now flights c.args.self.now.nodes.lives.items c.drop_letter.new.nodes.lives.items c.args.self.now.book c.args.self.now.book (ap (λ s. installer s flights) c.in-Drop.is) refl
+
+pub returns-in-Report-clause-installs : goal.returns-in-Report-clause-installs
+returns-in-Report-clause-installs g c =
+    let flights = c.args.self.now.flying.flights in
+    nobody_added c.args.step.now flights c.args.self.now.nodes.lives.items c.report_rows.new.nodes.lives.items c.args.self.now.book c.args.self.now.book (ap (λ s. installer s flights) c.in-Report.is) refl
 
 pub returns-in-Crash-clause-installs : goal.returns-in-Crash-clause-installs
 returns-in-Crash-clause-installs g c =

@@ -1,10 +1,12 @@
-use Rattle.std.proofs.Common.{ℕ, not, ap, ◌∙◌}
-use Rattle.std.specs.List.{list_all}
-use Rattle.object_model.specs.Sets.{nodes_in}
-use Rattle.object_model.specs.UpdateLog.{owes}
+use Rattle.std.proofs.Common.{◌↔◌, Bool, not, sym, subst}
+use Rattle.std.specs.Prelude.{IsTrue}
+use Rattle.node_core.specs.Nodes.{node_seen}
+use Rattle.node_core.specs.Owing.{owes_another, OwesAnother}
+use Rattle.node_core.proofs.Owing.{owes_words, none_owed}
 use Rattle.node_core.proofs.node.Node.is_settled.Goals as goal
 
-pub returns : goal.returns
-returns c =
-    let n = c.args.self.now.shape.nodes in
-    c.is_done_with_all.ensures ∙ ap (λ (m : ℕ). list_all (λ k. not (owes c.args.self.now.store.log k)) (nodes_in m n)) c.member_set.ensures
+pub returns-clause-settled : goal.returns-clause-settled
+returns-clause-settled c =
+    let own = c.args.self.now.store.own in
+    let seen = node_seen c.args.self.now in
+    subst (λ (b : Bool). IsTrue (not b) ↔ (OwesAnother own seen → ⊥)) (sym c.owes_another.ensures) (none_owed (OwesAnother own seen) (owes_another own seen) (owes_words own seen))
