@@ -2,7 +2,6 @@
 ghost use Rattle.std.specs.Prelude.{◌≡◌, ◌-◌, ◌≤◌, false, None, ◌&&◌, ◌||◌, not, is_some};
 ghost use Rattle.node_store.specs.Disks.{view_of};
 ghost use Rattle.std.specs.Option.{option_copied};
-ghost use Rattle.cluster_world.specs.Forms.{has_used_up};
 ghost use Rattle.cluster_world.specs.Worlds.{state_of, plan_of, life_of, CanMakeSteps};
 ghost use Rattle.cluster_world.specs.Flights.{AreInOrder};
 ghost use Rattle.cluster_world.specs.Turns.{node_refusal};
@@ -14,6 +13,7 @@ use crate::fault::StepFault;
 use crate::flying::is_worn;
 use crate::life::Life;
 use crate::step::{Said, Step};
+use crate::steps::group::is_used_up;
 use crate::world::World;
 use io_edge::Disk;
 use mail_base::{EpochId, NodeNo, NodeSet};
@@ -91,17 +91,7 @@ fn or_old(old: bool, said: &Said) -> bool
     old || is_old(said)
 }
 
-/// Whether the count of epochs of a node that is up is used up.
-fn is_used_up(life: &Life) -> bool
-    ensures { result ≡ has_used_up life.now }
-{
-    match life {
-        Life::Up(node) => u64::MAX <= node.maps().group().heard(),
-        Life::Down | Life::Lost => false,
-    }
-}
-
-/// The same of a node, if the plan has it.
+/// Whether the count of epochs of a node that is up is used up, if the plan has it.
 fn used_up_in(life: Option<&Life>) -> bool
     ensures { result ≡ used_up_in (option_copied life.entry) }
 {

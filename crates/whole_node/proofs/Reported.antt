@@ -14,6 +14,7 @@ use Rattle.cluster_model.specs.Cluster as plain
 use Rattle.maps_model.specs.Cluster as maps
 use Rattle.maps_model.specs.Rules as rules
 use Rattle.whole_model.specs.Whole.{maps_disk_of}
+use Rattle.whole_world.specs.Steps.{HasDue}
 use Rattle.whole_model.specs.Rules.{promise_records}
 use Rattle.map_rebuild.specs.Rows.{marked_users, due_users}
 use Rattle.map_rebuild.proofs.Listed.{marked_listed, due_given}
@@ -26,7 +27,7 @@ use Rattle.node_core.specs.Spelling.{AllCanBeTaken}
 use Rattle.node_core.proofs.Sending.{none_fit}
 use Rattle.whole_node.specs.Nodes.{HasMaps}
 use Rattle.whole_node.specs.Hearing.{FitsMaps}
-use Rattle.whole_node.specs.Reporting.{users_first, HasDue, ReportsTo}
+use Rattle.whole_node.specs.Reporting.{users_first, ReportsTo}
 use Rattle.whole_node.specs.declared.node.WholeNode.{WholeNode}
 use Rattle.whole_node.proofs.Called.{knows_any}
 use Rattle.whole_node.proofs.Said.{none_says, more_says, more_taken}

@@ -1,19 +1,16 @@
 -- The rows that a node reports.
-use Rattle.std.specs.Prelude.{◌≡◌, ◌≢◌, ◌↔◌, ◌<◌, ℕ, min, true, List, [], ◌++◌, length, All, Some, None}
-use Rattle.std.specs.Ordering.{nat_cmp}
-use Rattle.std.specs.Cmp.Lexicographic.{slice_cmp}
-use Rattle.std.specs.List.Sorted.{IsStrictlySortedBy}
+use Rattle.std.specs.Prelude.{◌≡◌, ◌<◌, ℕ, min, List, [], ◌++◌, length, All, Some, None}
 use Rattle.mail_model.specs.Record.{Record}
 use Rattle.object_model.specs.Lists.{Among}
 use Rattle.object_model.specs.Letters.{Membership, Letter}
 use Rattle.cluster_model.specs.Forms.{IsPlainMaps}
-use Rattle.maps_model.specs.Cluster as maps
 use Rattle.maps_model.specs.Rules as rules
 use Rattle.map_rebuild.specs.Rows.{marked_users, due_users}
 use Rattle.whole_model.specs.Whole.{maps_disk_of}
 use Rattle.whole_model.specs.Rules.{promise_records}
-use Rattle.whole_world.specs.Steps.{most_reports, is_due}
+use Rattle.whole_world.specs.Steps.{most_reports, HasDue}
 use Rattle.whole_world.specs.Makes.{done_for_maps}
+use Rattle.whole_world.specs.Reporting.{AreMarked}
 use Rattle.node_maps.specs.Nodes.{node_of}
 use Rattle.node_core.specs.Nodes.{NodeKeeps}
 use Rattle.node_core.specs.Spelling.{AllCanBeTaken}
@@ -30,15 +27,6 @@ pub record ReportedBy (to room : ℕ) (membership : Membership) (letters : List 
   pub did : rules.Reaction
   pub reports : rules.Reports node.mail.store.own to (users_first membership to room node) (node_of node.maps) (maps_disk_of records) did
   pub left : record { node = whole_seen node; disk = records ++ promise_records None; out = letters } ≡ done_for_maps (whole_seen node) records did None did.out
-
--- the users who are marked, in order of names
-pub record AreMarked (node : maps.Node) (users : List (List ℕ)) : Type 0 where
-  pub in_order : IsStrictlySortedBy (slice_cmp nat_cmp) users
-  pub all : (user : List ℕ) → (node.marked user ≡ true) ↔ Among user users
-
--- some row is due to another node
-abbrev pub HasDue : ℕ → ℕ → maps.Node → Type 0
-HasDue own to node = (to ≢ own) × (user : List ℕ) × (is_due to node user ≡ true)
 
 -- Nothing goes to the node itself, nor where no epoch is installed. Else the first rows that are due go out, in order of names: some do where one is due and there is room.
 pub record ReportsTo (to room : ℕ) (letters : List Letter) (node : WholeNode) : Type 0 where

@@ -2,7 +2,8 @@
 ghost use Rattle.std.specs.Prelude.{◌↔◌, IsTrue, IfOk};
 ghost use Rattle.node_maps.specs.Nodes.{node_of};
 ghost use Rattle.whole_node.specs.Nodes.{HasMaps};
-ghost use Rattle.whole_node.specs.Reporting.{HasDue, ReportsTo};
+ghost use Rattle.whole_node.specs.Reporting.{ReportsTo};
+ghost use Rattle.whole_world.specs.Steps.{HasDue};
 
 use crate::node::WholeNode;
 use mail_base::{Letter, NodeNo, Sequence};

@@ -40,8 +40,8 @@ pub(crate) fn find_room(flying: &Flying, letters: usize) -> bool
             .min(by_octets as usize)
 }
 
-// Whether the node has used up the count of epochs.
-fn is_used_up(life: &Life) -> bool
+/// Whether a node that is up has used up the count of epochs.
+pub(crate) fn is_used_up(life: &Life) -> bool
     ensures { result ≡ has_used_up life.now }
 {
     match life {
