@@ -14,7 +14,6 @@ user alice tanstaaf
 user bob tanstaaf
 user carol open sesame
 postmaster alice
-go
 ";
 
 const USERS: [&[u8]; 3] = [b"alice", b"bob", b"carol"];
@@ -26,6 +25,7 @@ const ASKED: &[u8] = b"settle\nmaps alice\nmaps bob\nmaps carol\nend\n";
 // lines come again. Letters are lost, nodes stop and start, and epochs come and go: one without a node that is up, one whose
 // Installs are late, and one without a node that is lost.
 const TAPE: &[u8] = b"\
+go
   * settled
   * maps alice at 4:
   * maps bob at 1:
@@ -351,7 +351,9 @@ fn epochs_settle_behind_each_line(rt: HostRuntime) -> Result<(), Fail> {
                 wanted.extend_from_slice(told)?;
             }
             None => {
-                each_prefix(&rt, alloc, &tape, &wanted)?;
+                if !wanted.is_empty() {
+                    each_prefix(&rt, alloc, &tape, &wanted)?;
+                }
                 is_told = false;
                 tape.extend_from_slice(line)?;
             }
