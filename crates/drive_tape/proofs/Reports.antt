@@ -28,6 +28,7 @@ use Rattle.drive_tape.specs.Led.{WentWell, sent_in}
 use Rattle.drive_tape.specs.Moved.{OrderIsFit, Happened, MovedSo, ReportedSo, HasReported, IsRefusedReport, ReportsSo}
 use Rattle.drive_tape.proofs.Posting.{well_and_one, sent_and_one, capped}
 use Rattle.drive_tape.proofs.Stepping.{IsCalm, AreCalm, steps_more, happens_calm, denied_after}
+use Rattle.drive_tape.proofs.Settles.{calm_as, report_leaves}
 
 -- such steps for more nodes
 to_more : (of : ℕ → Step) (others more : List ℕ) (steps rest : List StepMade) → StepsTo of others steps → WentWell steps → StepsTo of more rest → StepsTo of (others ++ more) (steps ++ rest)
@@ -96,7 +97,7 @@ module _ {D : Type 0} (on : View D) (from : ℕ) where
         before = was.before;
         well = was.well;
         last = was.last;
-        each = to_failed (step.Report from) (others_in from members k) (if has members (suc k) && not (nat_eq from (suc k)) then suc k ∷ [] else []) was.front _ was.well refl was.each;
+        each = to_failed (step.Report from) (others_in from members k) (if has members (suc k) && not (nat_eq from (suc k)) then suc k ∷ [] else []) was.front (record { step = step.Report from was.to; result = Err was.why }) was.well refl was.each;
         stops = was.stops;
       }
 
@@ -122,15 +123,7 @@ module _ {D : Type 0} (on : View D) (from : ℕ) where
 
   -- steps that are reports change no node where none failed
   calm_one : (to : ℕ) (one : StepMade) → one.step ≡ step.Report from to → has_failed one.result ≡ false → IsCalm one
-  calm_one to one is well = by one.result refl well
-    where
-      calm_by : (r : Result Said StepFault) → one.result ≡ r → IsCalm (record { step = step.Report from to; result = r }) → IsCalm one
-      calm_by r same calm = subst (λ (s : Step). IsCalm (record { step = s; result = one.result })) (sym is) (subst (λ (x : Result Said StepFault). IsCalm (record { step = step.Report from to; result = x })) (sym same) calm)
-
-      by : (r : Result Said StepFault) → one.result ≡ r → has_failed r ≡ false → IsCalm one
-      by (Ok (said.Faulted n)) same failed = absurd (let never : true ≡ false = failed in cc)
-      by (Err why) same failed = absurd (let never : true ≡ false = failed in cc)
-      by (Ok what) same failed = calm_by (Ok what) same (record { falls = refl; lives = λ n was. refl })
+  calm_one to one is well = calm_as one (step.Report from to) is (report_leaves from to one.result well)
 
   front_calm : (others : List ℕ) (front more : List StepMade) → StepsTo (step.Report from) others (front ++ more) → WentWell front → AreCalm front
   front_calm others [] more each well = tt

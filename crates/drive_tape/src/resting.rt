@@ -1,5 +1,6 @@
 // What the run lines make of the cluster by which it comes to rest, and what is told of its maps.
-ghost use Rattle.std.specs.Prelude.{◌≡◌, ◌≤◌, List, Ok, IsErrOf};
+ghost use Rattle.std.specs.Prelude.{◌≡◌, ◌≤◌, ◌&&◌, not, nat_eq, List, Ok, IsErrOf};
+ghost use Rattle.object_model.specs.Sets.{has};
 ghost use Rattle.mail_model.specs.Tape.{ClusterOrder as order};
 ghost use Rattle.session_model.specs.Acts.{Act as AnAct};
 ghost use Rattle.node_store.specs.Disks.{view_of};
@@ -18,6 +19,25 @@ use cluster_world::{Said, Settle, Step, StepFault, World};
 use io_edge::Disk;
 use mail_base::{Name, NodeNo, NodeSet};
 use std::alloc::Global;
+
+// Whether the second node is one of these members, and another than the first.
+fn is_other(members: NodeSet, from: NodeNo, to: NodeNo) -> bool
+    ensures { result ≡ (has members to && not (nat_eq from to)) }
+{
+    members.has(to) && from != to
+}
+
+// The node of this number.
+fn numbered(number: u8) -> NodeNo
+    requires above { 1 ≤ number }
+    requires within { number ≤ 16 }
+    ensures { result ≡ number }
+{
+    let Some(node) = NodeNo::new(number) else {
+        unreachable!()
+    };
+    node
+}
 
 // How many letters a node sent to another, as its manager.
 fn report_to<D: Disk>(
@@ -40,8 +60,8 @@ fn report_to<D: Disk>(
     }
 }
 
-#[tactic(auto, using(crate::proofs::Reports::reported_none, crate::proofs::Reports::reported_past, crate::proofs::Reports::reported_more, crate::proofs::Reports::refused_before, crate::proofs::Reports::refused_now))]
 // How many letters a node sent to each other of these members, of the nodes from 1 to so many, in rising order.
+#[tactic(auto, using(crate::proofs::Reports::reported_none, crate::proofs::Reports::reported_past, crate::proofs::Reports::reported_more, crate::proofs::Reports::refused_before, crate::proofs::Reports::refused_now))]
 fn report_each<D: Disk>(
     world: &mut World<D>,
     alloc: Global,
@@ -60,8 +80,8 @@ fn report_each<D: Disk>(
         return Ok(0);
     }
     let sent = report_each(world, alloc, from, members, nodes - 1)?;
-    let to = NodeNo::new(nodes).unwrap();
-    if members.has(to) && from != to {
+    let to = numbered(nodes);
+    if is_other(members, from, to) {
         let more = report_to(world, alloc, from, to)?;
         return Ok(sent.saturating_add(more));
     }
