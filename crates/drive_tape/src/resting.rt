@@ -10,7 +10,7 @@ ghost use Rattle.cluster_world.specs.Outcomes.{Outcome, Awaited};
 ghost use Rattle.cluster_world.specs.declared.world.World.{World as AWorld};
 ghost use Rattle.drive_tape.specs.Forms.{SettlesTo};
 ghost use Rattle.drive_tape.specs.Worlds.{WorldIsReady};
-ghost use Rattle.drive_tape.specs.Moved.{MovedSo, OrderIsFit, ReportedSo, ReportsSo};
+ghost use Rattle.drive_tape.specs.Moved.{MovedSo, OrderIsFit, IsSaidOfReport, SendsTo, ReportedSo, ReportsSo};
 
 use crate::Stop;
 use crate::denial::stop_by;
@@ -39,7 +39,22 @@ fn numbered(number: u8) -> NodeNo
     node
 }
 
+// How many letters a report sent.
+fn sent(said: &Result<Said, StepFault>) -> Result<u64, Stop>
+    requires fits { IsSaidOfReport said.now }
+    ensures sent { SendsTo said.now result }
+    ensures why { IsErrOf result Stop.WriteFault → ⊥ }
+{
+    match said {
+        Ok(Said::Sent { letters }) => Ok(*letters),
+        // Nothing else is said of it.
+        Ok(_) => unreachable!(),
+        Err(fault) => Err(stop_by(*fault)),
+    }
+}
+
 // How many letters a node sent to another, as its manager.
+#[tactic(auto, using(crate::proofs::Reports::said_of_report))]
 fn report_to<D: Disk>(
     world: &mut World<D>,
     alloc: Global,
@@ -52,12 +67,8 @@ fn report_to<D: Disk>(
     ensures reported { ReportedSo (view_of D.seen D.faults D.clock) from to result world.old world.new }
     ensures why { IsErrOf result Stop.WriteFault → ⊥ }
 {
-    match world.step(alloc, Step::Report { from, to }) {
-        Ok(Said::Sent { letters }) => Ok(letters),
-        // Nothing else is said of it.
-        Ok(_) => unreachable!(),
-        Err(fault) => Err(stop_by(fault)),
-    }
+    let said = world.step(alloc, Step::Report { from, to });
+    sent(&said)
 }
 
 // How many letters a node sent to each other of these members, of the nodes from 1 to so many, in rising order.
