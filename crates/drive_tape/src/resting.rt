@@ -72,7 +72,7 @@ fn report_to<D: Disk>(
 }
 
 // How many letters a node sent to each other of these members, of the nodes from 1 to so many, in rising order.
-#[tactic(auto, using(crate::proofs::Reports::reported_none, crate::proofs::Reports::reported_past, crate::proofs::Reports::reported_more, crate::proofs::Reports::refused_before, crate::proofs::Reports::refused_now))]
+#[tactic(auto, using(crate::proofs::Reports::reported_none, crate::proofs::Reports::reported_past, crate::proofs::Reports::refused_before))]
 fn report_each<D: Disk>(
     world: &mut World<D>,
     alloc: Global,
