@@ -44,10 +44,10 @@ use Rattle.drive_tape.proofs.Chains.{went_more}
 use Rattle.drive_tape.proofs.WholeTexts.{settle_ended}
 
 -- such a step leaves each node as it is
-abbrev LeavesNodes : Step → Result Said StepFault → Type 0
+abbrev pub LeavesNodes : Step → Result Said StepFault → Type 0
 LeavesNodes one result = (fallen_in one result ≡ None) × ((n : ℕ) (was : NodeLife) → life_after_step result one n was ≡ was)
 
-calm_as : (one : StepMade) (s : Step) → one.step ≡ s → LeavesNodes s one.result → IsCalm one
+pub calm_as : (one : StepMade) (s : Step) → one.step ≡ s → LeavesNodes s one.result → IsCalm one
 calm_as one s is leaves = record {
   falls = ap (λ (x : Step). fallen_in x one.result) is ∙ leaves.0;
   lives = λ n was. ap (λ (x : Step). life_after_step one.result x n was) is ∙ leaves.1 n was;
@@ -63,7 +63,7 @@ push_leaves from to (Ok (said.Faulted n)) well = absurd (let never : true ≡ fa
 push_leaves from to (Ok what) well = (refl, λ n was. refl)
 push_leaves from to (Err why) well = absurd (let never : true ≡ false = well in cc)
 
-report_leaves : (from to : ℕ) (result : Result Said StepFault) → has_failed result ≡ false → LeavesNodes (step.Report from to) result
+pub report_leaves : (from to : ℕ) (result : Result Said StepFault) → has_failed result ≡ false → LeavesNodes (step.Report from to) result
 report_leaves from to (Ok (said.Faulted n)) well = absurd (let never : true ≡ false = well in cc)
 report_leaves from to (Ok what) well = (refl, λ n was. refl)
 report_leaves from to (Err why) well = absurd (let never : true ≡ false = well in cc)
