@@ -1,5 +1,6 @@
 //! What the lines of the console order.
 ghost use Rattle.std.specs.Prelude.{◌≡◌, codes, option_and_then, IfOk};
+ghost use Rattle.mail_model.specs.Plan.{is_user};
 ghost use Rattle.mail_model.specs.Tape.{strip};
 ghost use Rattle.board_service.specs.ConsoleLines.{numbered, bare, maps_line, order_in, is_known, order_heard, node_of, board_order};
 ghost use Rattle.board_service.specs.declared.orders.ConsoleOrder.TheVariants.{Crash, Start, Lose, Group, Settle, Sum};
@@ -121,12 +122,19 @@ fn order_in(alloc: Global, line: &[u8]) -> Result<Option<ConsoleOrder>, AllocErr
     asks_maps(alloc, line)
 }
 
+// Whether the plan has a user of this name.
+fn has_user(plan: &Plan, user: &Name) -> bool
+    ensures { result ≡ is_user plan.now user.now }
+{
+    plan.users.has(user)
+}
+
 // Whether the user whose map is asked for is one of the plan.
 fn is_known(plan: &Plan, order: &ConsoleOrder) -> bool
     ensures { result ≡ is_known plan.now order.now }
 {
     match order {
-        ConsoleOrder::Maps(user) => plan.users.has(user),
+        ConsoleOrder::Maps(user) => has_user(plan, user),
         ConsoleOrder::Crash(_)
         | ConsoleOrder::Start(_)
         | ConsoleOrder::Lose(_)
