@@ -373,7 +373,7 @@ module _ {D : Type 0} (on : View D) (start : World D) (left0 left1 left2 held0 h
       sound = whole_in on start world begins stop p.handled midst p.acts h.behind _ entries sessions is_driven (p.point.outcomes ++ new) h.since.0 h.since.1.made refl nodes_are;
       one_map = one_map_in on start world begins stop p.handled midst p.acts h.behind _ entries sessions is_driven (p.point.outcomes ++ new) h.since.0 h.since.1.made refl nodes_are;
       maps_right = λ is. maps_right_in on start world begins stop p.handled midst p.acts h.behind _ entries sessions is_driven (p.point.outcomes ++ new) h.since.0 h.since.1.made refl nodes_are h.lacking h.extra led is
-          (behind_none (plan_of start) _ _ midst h.behind h.tail h.extra sessions (subst (λ (s : Stop). IsLeftOff (plan_of start) _ s _ midst h.behind h.tail h.extra sessions) is h.off));
+          (behind_none (plan_of start) p.point.been p.point.sessions midst h.behind h.tail h.extra sessions (subst (λ (s : Stop). IsLeftOff (plan_of start) p.point.been s p.point.sessions midst h.behind h.tail h.extra sessions) is h.off));
       named = names_in on start world begins stop p.handled midst p.acts h.behind _ entries sessions is_driven (p.point.outcomes ++ new) h.since.0 h.since.1.made refl nodes_are h.lacking h.extra led;
       quiet = stays_whole on (p.point.outcomes ++ new) h.since.0 start world;
       kept = kept_in on start world begins stop p.handled midst p.acts h.behind _ entries sessions is_driven (p.point.outcomes ++ new) h.since.0 h.since.1.made refl nodes_are
