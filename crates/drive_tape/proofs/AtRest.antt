@@ -1,5 +1,5 @@
 -- A run whose last deed was a settle left a world at rest.
-use Rattle.std.proofs.Common.{◌≡◌, ℕ, List, [], ◌∷◌, ◌++◌, Option, Some, Result, Ok, Err, refl, sym, ap, ◌∙◌, subst, append-nil, append_assoc}
+use Rattle.std.proofs.Common.{◌≡◌, ℕ, List, [], ◌∷◌, ◌++◌, Result, Ok, Err, refl, sym, ap, ◌∙◌, subst, append-nil}
 use Rattle.std.specs.Prelude.{All}
 use Rattle.std.proofs.lemmas.List.Elements.{All-head, All-tail}
 use Rattle.mail_model.specs.Plan.{Plan}
@@ -9,12 +9,10 @@ use Rattle.session_model.specs.Acts.Act.{Does, Makes as MakesAct}
 use Rattle.session_model.specs.Acts.Deed.{Hears}
 use Rattle.session_model.specs.Events.{ClusterEvent}
 use Rattle.session_model.specs.Events.ClusterEvent.{HasSettled, WasAbsent, HasFaulted}
-use Rattle.session_model.specs.Lives.{life_after}
 use Rattle.session_model.specs.Logs.{Asked}
 use Rattle.session_model.specs.Run.{Made, Stop}
 use Rattle.session_model.specs.Run.Stop.{BehindLine, OutOfMemory}
 use Rattle.node_store.specs.Disks.{View}
-use Rattle.cluster_world.specs.Lives.{nodes_up}
 use Rattle.cluster_world.specs.Made.{StepMade}
 use Rattle.cluster_world.specs.Outcomes.{Outcome, Awaited, Came, Makes, made_of}
 use Rattle.cluster_world.specs.Outcomes.Outcome.{Moved, Settling, Mapped}

@@ -40,7 +40,7 @@ use Rattle.cluster_world.specs.Wholes.{HasOneMap}
 use Rattle.cluster_world.specs.Worlds.{state_of, plan_of, disks_of, book_of, disks_tell}
 use Rattle.cluster_world.specs.Opens.{IsAtBeginning}
 use Rattle.cluster_world.specs.Owing.{AreBlind, IsOfBlind, AllBlind, AreKnown, AreOfSessions, WorldOwes}
-use Rattle.cluster_world.specs.Made.{StepMade, IsPost, IsOfRegroup, AreOfRegroup}
+use Rattle.cluster_world.specs.Made.{StepMade, IsPost, AreOfRegroup}
 use Rattle.cluster_world.specs.Outcomes.{Outcome, Awaited, Came, Makes, made_of, asked_by_outcome, answered_by_outcome}
 use Rattle.cluster_world.proofs.Ordered.{AreStepsOf, IsPushOf, IsReportOf, order_are}
 use Rattle.cluster_world.specs.Outcomes.Outcome.{Began, Refused, Fell, Broke, Answers, StillPending, Unanswered, GaveUp, Abandoned, KeptUp, Left, Moved, Settling, Mapped}

@@ -1,15 +1,15 @@
 -- A node reports to members of its epoch, one after another.
 use Rattle.std.specs.Prelude.{min, MatchBool, IfOk, if◌then◌else◌}
-use Rattle.std.proofs.Common.{◌≡◌, ◌≢◌, ℕ, zero, suc, ◌+◌, ◌-◌, ◌≤◌, Bool, true, false, not, ◌&&◌, nat_eq, List, [], ◌∷◌, ◌++◌, Option, Some, None, Result, Ok, Err, refl, sym, ap, ◌∙◌, subst, arith, append_assoc, append-nil}
+use Rattle.std.proofs.Common.{◌≡◌, ℕ, zero, suc, ◌+◌, ◌-◌, ◌≤◌, Bool, true, false, not, ◌&&◌, nat_eq, List, [], ◌∷◌, ◌++◌, Some, None, Result, Ok, Err, refl, sym, ap, ◌∙◌, subst, arith, append-nil}
 use Rattle.object_model.specs.Sets.{has}
 use Rattle.mail_model.specs.Tape.{ClusterOrder as order}
 use Rattle.session_model.specs.Acts.{Act}
-use Rattle.session_model.specs.Events.{NodeLife, IsUp}
+use Rattle.session_model.specs.Events.{IsUp}
 use Rattle.session_model.specs.Lives.{life_after}
 use Rattle.session_model.specs.Run.{is_no_node, fault_if}
 use Rattle.mail_model.specs.Site.TapeFault.{NoSuchNode}
 use Rattle.node_store.specs.Disks.{View}
-use Rattle.cluster_world.specs.Made.{StepMade, MakesSteps, StepsTo, ReportsAll, others_in, has_failed}
+use Rattle.cluster_world.specs.Made.{StepMade, StepsTo, others_in, has_failed}
 use Rattle.cluster_world.specs.Outcomes.{Outcome, Awaited}
 use Rattle.cluster_world.specs.Steps.{IsStep, SaysSo}
 use Rattle.cluster_world.specs.Telling.{members_seen}
@@ -23,9 +23,8 @@ use Rattle.cluster_world.specs.declared.step.Step.TheVariants as step
 use Rattle.cluster_world.specs.declared.world.World.{World}
 use Rattle.drive_tape.specs.declared.drove.Stop.{Stop}
 use Rattle.drive_tape.specs.declared.event.ClusterEvent.TheVariants.{HasSent}
-use Rattle.drive_tape.specs.Denials.{stop_by}
 use Rattle.drive_tape.specs.Led.{WentWell, sent_in}
-use Rattle.drive_tape.specs.Moved.{OrderIsFit, Happened, MovedSo, IsSaidOfReport, SendsTo, ReportedSo, HasReported, IsRefusedReport, ReportsSo}
+use Rattle.drive_tape.specs.Moved.{OrderIsFit, Happened, MovedSo, IsSaidOfReport, SendsTo, ReportedSo, HasReported, IsRefusedReport}
 use Rattle.drive_tape.proofs.Posting.{well_and_one, sent_and_one, capped}
 use Rattle.drive_tape.proofs.Stepping.{IsCalm, AreCalm, steps_more, happens_calm, denied_after}
 use Rattle.drive_tape.proofs.Settles.{calm_as, report_leaves}

@@ -1,23 +1,21 @@
 -- What a settle, a report and a map make of a world.
-use Rattle.std.specs.Prelude.{min, MatchBool, IfOk}
-use Rattle.std.proofs.Common.{◌≡◌, ◌≢◌, ◌⊎◌, ⊎_elim, inl, inr, ℕ, ◌+◌, Bool, true, false, List, [], ◌∷◌, ◌++◌, Option, None, Result, Ok, Err, refl, sym, ap, ◌∙◌, subst, arith, append_assoc, append-nil}
+use Rattle.std.proofs.Common.{◌≡◌, ⊎_elim, ℕ, true, false, List, [], ◌∷◌, ◌++◌, Option, None, Result, Ok, Err, refl, sym, ap, ◌∙◌, subst}
 use Rattle.mail_model.specs.Tape.{ClusterOrder as order}
-use Rattle.session_model.specs.Sums.{sum_of}
 use Rattle.session_model.specs.Acts.{Act}
 use Rattle.session_model.specs.Events.{NodeLife, MayFault}
 use Rattle.session_model.specs.Lives.{life_after}
 use Rattle.node_store.specs.Disks.{View}
 use Rattle.cluster_world.specs.Flows.{AllDelivered}
-use Rattle.cluster_world.specs.Made.{StepMade, MakesSteps, IsPost, StepsTo, has_failed}
+use Rattle.cluster_world.specs.Made.{StepMade, MakesSteps, has_failed}
 use Rattle.cluster_world.specs.Outcomes.{Outcome, Awaited, Came, fallen_in, left_after_all}
 use Rattle.cluster_world.specs.Outcomes.Outcome.{Settling, Mapped}
 use Rattle.cluster_world.specs.Regroups.{AllWentOn, EndsBy}
-use Rattle.cluster_world.specs.Settling.{IsOfSettle, AreOfSettle, MakesSettle, SettlesSo, Goes, Swept, IsRefusedBy, SweepsInVain, settle_refusal, pairs_in, maps_in}
+use Rattle.cluster_world.specs.Settling.{IsOfSettle, AreOfSettle, MakesSettle, Goes, Swept, IsRefusedBy, SweepsInVain, settle_refusal, pairs_in, maps_in}
 use Rattle.cluster_world.specs.Settling.IsOfSettle.{Posts, Pushes, Reports}
 use Rattle.cluster_world.specs.Settling.Swept.{NoMore, OneMore}
-use Rattle.cluster_world.specs.Steps.{IsStep, FallsSo, WasToWork}
+use Rattle.cluster_world.specs.Steps.{FallsSo, WasToWork}
 use Rattle.cluster_world.specs.Turns.{life_after_step}
-use Rattle.cluster_world.specs.Worlds.{state_of, plan_of, life_of, life_in, book_of}
+use Rattle.cluster_world.specs.Worlds.{state_of, plan_of, life_of, life_in}
 use Rattle.cluster_world.proofs.Settles.{each_went}
 use Rattle.cluster_world.specs.declared.fault.StepFault.{StepFault}
 use Rattle.cluster_world.specs.declared.fault.StepFault.TheVariants as fault
