@@ -306,12 +306,7 @@ fn agree(stores: &[(u8, &[u8])], members: u8) -> bool {
 }
 
 // Drives the tape and what is asked behind it, and compares.
-fn each_prefix(
-    rt: &impl Abort,
-    alloc: Global,
-    tape: &[u8],
-    wanted: &[u8],
-) -> Result<(), Fail> {
+fn each_prefix(rt: &impl Abort, alloc: Global, tape: &[u8], wanted: &[u8]) -> Result<(), Fail> {
     let whole = joined(alloc, &[tape, ASKED])?;
     let mut yard = yard_of(alloc, 0)?;
     let (status, transcript) = drive_over(alloc, &whole, &mut yard);
