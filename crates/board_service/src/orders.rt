@@ -8,7 +8,7 @@ ghost use Rattle.board_service.specs.ConsoleLines.{numbered, bare, maps_line, or
 ghost use Rattle.board_service.specs.declared.orders.ConsoleOrder.TheVariants.{Crash, Start, Lose, Group, Settle, Sum};
 
 use line_words::number;
-use mail_base::{Name, NodeNo, Plan};
+use mail_base::{Name, NodeNo, Plan, spells_name};
 use shard_board::Order;
 use std::alloc::{AllocError, Global};
 use tape_lines::{strip, without_cr};
@@ -128,7 +128,7 @@ fn order_in(alloc: Global, line: &[u8]) -> Result<Option<ConsoleOrder>, AllocErr
 fn has_user(plan: &Plan, user: &Name) -> bool
     ensures { result ≡ is_user plan.now user.now }
 {
-    plan.users.has(user)
+    spells_name(user.octets()) && plan.users.has(user)
 }
 
 // Whether the user whose map is asked for is one of the plan.
