@@ -193,8 +193,6 @@ S2@9
 const SETTLES: &[u8] = b"\
 C
 @3
->maps ann
-<*0 maps ann at 1: 1 2
 >settle
 <*0 settled
 >maps ann
@@ -202,11 +200,11 @@ C
 >maps ALICE@Example.ORG\r
 <*0 maps alice@example.org at 1:
 >maps bob
-<! line 5 BadLine
+<! line 4 BadLine
 >maps
-<! line 6 BadLine
+<! line 5 BadLine
 >settle 1
-<! line 7 BadLine
+<! line 6 BadLine
 >lose 1
 <*0 node 1 lost
 >maps ann
