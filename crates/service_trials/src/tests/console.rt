@@ -192,7 +192,7 @@ S2@9
 // The latest epoch settles, as long as its members are live, and each user's manager names who has mail of the user.
 const SETTLES: &[u8] = b"\
 C
-@3
+@2
 >settle
 <*0 settled
 >maps ann
@@ -233,7 +233,6 @@ S1
 <250 stored
 >QUIT
 <221 node1 closing
-!3
 ";
 
 // How a service ended whose console ended at this line, without `stop`.
