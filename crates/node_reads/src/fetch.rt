@@ -4,7 +4,7 @@ ghost use Rattle.object_model.specs.Letters.Body.{FetchAsk};
 ghost use Rattle.mail_base.specs.Bodies.{part_seen};
 ghost use Rattle.login_model.specs.Readings.FetchStage.{IsAnswered as IsAnsweredBy, NobodyLeft};
 ghost use Rattle.login_model.specs.Rules.{ask, ask_next, part_at, fetch_befell};
-ghost use Rattle.login_model.specs.Progress.{fetch_ask};
+ghost use Rattle.login_model.specs.Progress.{fetch_ask, fetch_chances};
 ghost use Rattle.login_model.specs.Progress.ReadAnswer.{Gives};
 ghost use Rattle.object_model.specs.Letters as plain;
 ghost use Rattle.object_model.specs.Mishaps as befell;
@@ -184,6 +184,17 @@ impl Fetch {
         match self.left_after(at) {
             Some(left) => self.ask_next(u, left),
             None => Ok(None),
+        }
+    }
+
+    /// How many letters mishaps may still send for it: one to each holder that is left.
+    pub(crate) fn chances(&self) -> u32
+        ensures { result ≡ fetch_chances self.now.stage }
+    {
+        match &self.stage {
+            FetchStage::AsksHolder { holder: _, left } => left.count(),
+            FetchStage::IsAnswered { .. } => 0,
+            FetchStage::NobodyLeft => 0,
         }
     }
 

@@ -1,5 +1,6 @@
 //! How far a login has come.
-ghost use Rattle.std.specs.Prelude.{◌≡◌, [], List, None, map, IfOk, OnOk, OnErr};
+ghost use Rattle.std.specs.Prelude.{◌≡◌, [], List, Some, None, map, nat_eq, IfOk, OnOk, OnErr, if◌then◌else◌};
+ghost use Rattle.std.specs.Option.{option_copied};
 ghost use Rattle.mail_base.specs.Bodies.{word_seen};
 ghost use Rattle.object_model.specs.Letters as plain;
 ghost use Rattle.object_model.specs.Mishaps as befell;
@@ -7,7 +8,7 @@ ghost use Rattle.object_model.specs.Letters.LoginWord.{Named as NamedNodes};
 ghost use Rattle.login_model.specs.Readings.LoginStage.{AsksManager};
 ghost use Rattle.login_model.specs.Rules as rules;
 ghost use Rattle.login_model.specs.Rules.{take_word, word_at, list_at, fail, login_befell, given_up};
-ghost use Rattle.login_model.specs.Progress.{login_ask};
+ghost use Rattle.login_model.specs.Progress.{login_ask, login_chances};
 ghost use Rattle.login_model.specs.Progress.ReadAnswer.{Denies};
 ghost use Rattle.node_tickets.specs.Seen.{mishaps_seen};
 ghost use Rattle.told_lists.specs.Joining.{login_item};
@@ -92,6 +93,29 @@ impl Login {
         ensures { result.now ≡ self.now.user }
     {
         &self.user
+    }
+
+    /// Its user, where this node is its manager.
+    pub(crate) fn managed_user(&self, own: NodeNo) -> Option<&Name>
+        ensures { option_copied result ≡ (if nat_eq self.now.manager own then Some self.now.user else None) }
+    {
+        if self.manager == own {
+            Some(&self.user)
+        } else {
+            None
+        }
+    }
+
+    /// How many letters mishaps may still send for it.
+    pub(crate) fn chances(&self) -> u32
+        ensures { result ≡ login_chances self.now.stage }
+    {
+        match &self.stage {
+            LoginStage::AsksManager => 1,
+            LoginStage::IsDenied(_) => 0,
+            LoginStage::AsksNodes(_) => 1,
+            LoginStage::HasFailed => 0,
+        }
     }
 
     // The manager lets it in: the nodes that it names are asked, and the own node tells its list at once.

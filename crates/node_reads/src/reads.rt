@@ -15,6 +15,7 @@ ghost use Rattle.login_model.specs.Rules as rules;
 ghost use Rattle.login_model.specs.Rules.{begin_login, begin_fetch};
 ghost use Rattle.node_tickets.specs.Seen.{kind_of_mishap};
 ghost use Rattle.node_reads.specs.Seen.{reading_seen};
+ghost use Rattle.node_reads.specs.Asking.{done_at, kind_at, chances_at, managed_user_at};
 ghost use Rattle.node_reads.specs.Readings.{listed, user_at};
 ghost use Rattle.node_reads.specs.Tables.{seen, reads_in, IsOf, is_own, ticket_at, Begins, Hears, Befalls, GivesUp, Asks};
 ghost use Rattle.node_reads.specs.Tickets.{ticket_told, ticket_befell, did_if_stands, taken_if_stands, letters_given_up};
@@ -27,7 +28,7 @@ use crate::progress::{ReadProgress, Reading};
 use crate::under::Under;
 use call_tickets::Ask;
 use mail_base::{
-    Body, EpochId, Letter, LoginWord, MsgId, Name, NodeNo, NodeSet, Proof, Sequence, Ticket,
+    Body, CallKind, EpochId, Letter, LoginWord, MsgId, Name, NodeNo, NodeSet, Proof, Sequence, Ticket,
     ToldItem, ToldPart,
 };
 use node_tickets::MishapKind;
@@ -201,6 +202,48 @@ impl NodeReads {
         match self.find(ticket) {
             Some(progress) => progress.user_of_login(),
             None => None,
+        }
+    }
+
+    /// Whose lock the own node lets go, where a login fails or is given up: the user of a login that the node manages itself; nothing
+    /// where no such login stands under the number. It takes no memory.
+    pub fn managed_user(&self, ticket: Ticket) -> Option<&Name>
+        ensures { option_copied result ≡ managed_user_at self.now.own (ticket_at self.now ticket) }
+    {
+        match self.find(ticket) {
+            Some(progress) => progress.managed_user(self.own),
+            None => None,
+        }
+    }
+
+    /// The kind of the call, if the ticket stands. It takes no memory.
+    pub fn kind(&self, ticket: Ticket) -> Option<CallKind>
+        ensures { result ≡ kind_at (ticket_at self.now ticket) }
+    {
+        match self.find(ticket) {
+            Some(progress) => Some(progress.kind()),
+            None => None,
+        }
+    }
+
+    /// Whether a ticket stands under the number whose call is done: an ask of it has an answer. It takes no memory.
+    pub fn is_done(&self, ticket: Ticket) -> bool
+        ensures { result ≡ done_at (ticket_at self.now ticket) }
+    {
+        match self.find(ticket) {
+            Some(progress) => progress.is_done(),
+            None => false,
+        }
+    }
+
+    /// How many letters mishaps may still send for the call; none where no ticket stands under the number. Each such letter is one
+    /// less. It takes no memory.
+    pub fn chances(&self, ticket: Ticket) -> u32
+        ensures { result ≡ chances_at (ticket_at self.now ticket) }
+    {
+        match self.find(ticket) {
+            Some(progress) => progress.chances(),
+            None => 0,
         }
     }
 
