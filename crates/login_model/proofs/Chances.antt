@@ -49,10 +49,10 @@ count_less a b m within inside outside (suc k) le = ⊎_elim
     on less false false p q = omega (arith, less)
     on less true false p q = absurd (true≢false (sym (within (suc k) p) ∙ q))
 
-left_less : (left m : ℕ) → has left m ≡ true → count_in (without_node left m) + 1 ≤ count_in left
+pub left_less : (left m : ℕ) → has left m ≡ true → count_in (without_node left m) + 1 ≤ count_in left
 left_less left m inside = count_less (without_node left m) left m (λ n h. (left_in left m n h).0) inside (λ h. (left_in left m m h).1 refl) 64 (few left m inside)
 
-left_le : (left m : ℕ) → count_in (without_node left m) ≤ count_in left
+pub left_le : (left m : ℕ) → count_in (without_node left m) ≤ count_in left
 left_le left m = count_le (without_node left m) left (λ n h. (left_in left m n h).0) 64
 
 -- a login that fails sends an Unlock at most

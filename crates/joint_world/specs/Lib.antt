@@ -1,0 +1,9 @@
+pub mod World
+pub mod Rules
+pub mod Putting
+pub mod Steps
+pub mod Staying
+pub mod Makes
+pub mod Seen
+pub mod Laws
+pub mod First
