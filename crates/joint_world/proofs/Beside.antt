@@ -72,9 +72,9 @@ seen slot = whole.mail_slot (whole_slot slot)
 
 rises : (before after : mail.Slot) → Turns before after → boot_of before.disk ≤ boot_of after.disk
 rises before after (Rests e) = le_of_eq (ap (λ (s : mail.Slot). boot_of s.disk) e)
-rises before after (Works a b ea eb boot calls disks) = le_of_eq (sym disks)
-rises before after (IsOff not up) = up
-rises before after (Starts b was eb boot later) = omega (arith, later, boot)
+rises before after (Works a b ea eb boot calls disks g) = le_of_eq (sym disks)
+rises before after (IsOff not up g) = up
+rises before after (Starts b was eb boot later g) = omega (arith, later, boot)
 
 module _ (tells : Bool) (before after : Slot) (t : Turns (seen before) (seen after)) (keeps : (node : Node) → after.life ≡ Up node → KeepsReads before.life node) where
   off : ((node : login.Node) → read_life tells after.life ≡ login.Life.Up node → ⊥) → TurnsBeside (read_slot tells before) (read_slot tells after)
@@ -100,13 +100,13 @@ module _ (tells : Bool) (before after : Slot) (t : Turns (seen before) (seen aft
       by (Rests e) =
           let same : x.whole.mail ≡ y.whole.mail = seen_up x.whole.mail y.whole.mail (sym from ∙ ap (λ (s : mail.Slot). s.life) e ∙ to) in
           made (ap (λ (n : mail.Node). n.boot) (sym same)) (le_of_eq (ap (λ (n : mail.Node). n.calls) same)) (ap (λ (s : mail.Slot). boot_of s.disk) (sym e))
-      by (Works a b ea eb boot calls disks) =
+      by (Works a b ea eb boot calls disks g) =
           let first : x.whole.mail ≡ a = seen_up x.whole.mail a (sym from ∙ ea) in
           let second : y.whole.mail ≡ b = seen_up y.whole.mail b (sym to ∙ eb) in
           made (ap (λ (n : mail.Node). n.boot) second ∙ boot ∙ ap (λ (n : mail.Node). n.boot) (sym first))
           (subst (λ (n : mail.Node). n.calls ≤ y.whole.mail.calls) (sym first) (subst (λ (n : mail.Node). a.calls ≤ n.calls) (sym second) calls)) disks
-      by (IsOff not up) = absurd (not y.whole.mail to)
-      by (Starts b was eb boot later) = absurd (was x.whole.mail from)
+      by (IsOff not up g) = absurd (not y.whole.mail to)
+      by (Starts b was eb boot later g) = absurd (was x.whole.mail from)
 
   -- it was not, and is
   starts : (y : Node) → after.life ≡ Up y → ((node : mail.Node) → (seen before).life ≡ mail.Life.Up node → ⊥) → ((node : login.Node) → read_life tells before.life ≡ login.Life.Up node → ⊥) → y.reads ≡ fin.empty
@@ -118,9 +118,9 @@ module _ (tells : Bool) (before after : Slot) (t : Turns (seen before) (seen aft
 
       by : Turns (seen before) (seen after) → TurnsBeside (read_slot tells before) (read_slot tells after)
       by (Rests e) = absurd (not_up y.whole.mail (ap (λ (s : mail.Slot). s.life) e ∙ to))
-      by (Works a b ea eb boot calls disks) = absurd (not_up a ea)
-      by (IsOff not up) = absurd (not y.whole.mail to)
-      by (Starts b was eb boot later) =
+      by (Works a b ea eb boot calls disks g) = absurd (not_up a ea)
+      by (IsOff not up g) = absurd (not y.whole.mail to)
+      by (Starts b was eb boot later g) =
           let same : y.whole.mail ≡ b = seen_up y.whole.mail b (sym to ∙ eb) in
           ComesUp (read_node tells y) unseen (ap (read_life tells) ey) (ap (λ (n : mail.Node). n.boot) same ∙ boot) (subst (λ (n : mail.Node). boot_of before.disk < n.boot) (sym same) later) none
 

@@ -1,5 +1,5 @@
 -- A step of the whole machine, as messages see it, does nothing to calls that read: each node that stays up keeps its boot, and letters of these calls stay.
-use Rattle.std.proofs.Common.{◌≡◌, ◌⊎◌, inl, inr, ⊎_elim, ℕ, zero, suc, ◌+◌, ◌≤◌, ◌<◌, arith, Bool, true, false, not, ◌&&◌, List, [], ◌∷◌, ◌++◌, append-nil, length, Option, Some, None, refl, sym, ap, ◌∙◌, subst, nat_eq, le_refl, le_trans, le_of_eq, if◌then◌else◌}
+use Rattle.std.proofs.Common.{◌≡◌, ◌⊎◌, inl, inr, ⊎_elim, ℕ, zero, suc, ◌+◌, ◌≤◌, ◌<◌, arith, Bool, true, false, not, ◌&&◌, List, [], ◌∷◌, ◌++◌, append-nil, append_assoc, length, Option, Some, None, refl, sym, ap, ◌∙◌, subst, nat_eq, le_refl, le_trans, le_of_eq, if◌then◌else◌}
 use Rattle.std.specs.Prelude.{slice_set}
 use Rattle.std.specs.FinMap as fin
 use Rattle.mail_model.specs.Identity.{Id, Stamp, EpochId, Key, State}
@@ -92,11 +92,29 @@ same_rest (x ∷ xs) ys zs e = same_rest xs ys zs (tails e)
     tails e = cc
 
 -- what becomes of a slot in such a step
+-- Its disk may grow.
+pub record Grows (before after : Slot) : Type 0 where
+  pub rest : List Record
+  pub is : after.disk ≡ before.disk ++ rest
+
 pub data Turns (before after : Slot) : Type 0 where
   Rests : before ≡ after → Turns before after
-  Works : (a b : Node) → before.life ≡ Up a → after.life ≡ Up b → b.boot ≡ a.boot → a.calls ≤ b.calls → boot_of after.disk ≡ boot_of before.disk → Turns before after
-  IsOff : ((node : Node) → after.life ≡ Up node → ⊥) → boot_of before.disk ≤ boot_of after.disk → Turns before after
-  Starts : (b : Node) → ((node : Node) → before.life ≡ Up node → ⊥) → after.life ≡ Up b → b.boot ≡ boot_of after.disk → boot_of before.disk < b.boot → Turns before after
+  Works : (a b : Node) → before.life ≡ Up a → after.life ≡ Up b → b.boot ≡ a.boot → a.calls ≤ b.calls → boot_of after.disk ≡ boot_of before.disk → Grows before after → Turns before after
+  IsOff : ((node : Node) → after.life ≡ Up node → ⊥) → boot_of before.disk ≤ boot_of after.disk → Grows before after → Turns before after
+  Starts : (b : Node) → ((node : Node) → before.life ≡ Up node → ⊥) → after.life ≡ Up b → b.boot ≡ boot_of after.disk → boot_of before.disk < b.boot → Grows before after → Turns before after
+
+-- a disk that stays as it is
+stays_as : (before after : Slot) → after.disk ≡ before.disk → Grows before after
+stays_as before after same = record { rest = []; is = same ∙ sym (append-nil before.disk) }
+
+grows_same : (a b c : Slot) → Grows a b → c.disk ≡ b.disk → Grows a c
+grows_same a b c g same = record { rest = g.rest; is = same ∙ g.is }
+
+pub grows_in : (before after : Slot) → Turns before after → Grows before after
+grows_in before after (Rests e) = stays_as before after (ap (λ (s : Slot). s.disk) (sym e))
+grows_in before after (Works a b ea eb boot calls disks g) = g
+grows_in before after (IsOff not rises g) = g
+grows_in before after (Starts b was eb boot later g) = g
 
 -- letters of calls that read fly there as they flew here
 abbrev pub Carries : World → World → Type 0
@@ -118,14 +136,16 @@ up_up a b e = cc
 
 then_soft : (a b c : Slot) → Turns a b → IsSoft b c → Turns a c
 then_soft a b c t (Same e) = subst (Turns a) e t
-then_soft a b c (Rests e) (Inner x y ex ey boot calls disk) = Works x y (ap (λ (s : Slot). s.life) e ∙ ex) ey boot calls (ap boot_of (disk ∙ ap (λ (s : Slot). s.disk) (sym e)))
-then_soft a b c (Works p q ep eq boots more disks) (Inner x y ex ey boot calls disk) =
+then_soft a b c (Rests e) (Inner x y ex ey boot calls disk) =
+    let same : c.disk ≡ a.disk = disk ∙ ap (λ (s : Slot). s.disk) (sym e) in
+    Works x y (ap (λ (s : Slot). s.life) e ∙ ex) ey boot calls (ap boot_of same) (stays_as a c same)
+then_soft a b c (Works p q ep eq boots more disks g) (Inner x y ex ey boot calls disk) =
     let same : x ≡ q = up_up x q (sym ex ∙ eq) in
-    Works p y ep ey (boot ∙ ap (λ (n : Node). n.boot) same ∙ boots) (le_trans more (subst (λ (n : Node). n.calls ≤ y.calls) same calls)) (ap boot_of disk ∙ disks)
-then_soft a b c (IsOff not rises) (Inner x y ex ey boot calls disk) = absurd (not x ex)
-then_soft a b c (Starts q was eq boots later) (Inner x y ex ey boot calls disk) =
+    Works p y ep ey (boot ∙ ap (λ (n : Node). n.boot) same ∙ boots) (le_trans more (subst (λ (n : Node). n.calls ≤ y.calls) same calls)) (ap boot_of disk ∙ disks) (grows_same a b c g disk)
+then_soft a b c (IsOff not rises g) (Inner x y ex ey boot calls disk) = absurd (not x ex)
+then_soft a b c (Starts q was eq boots later g) (Inner x y ex ey boot calls disk) =
     let same : y.boot ≡ q.boot = boot ∙ ap (λ (n : Node). n.boot) (up_up x q (sym ex ∙ eq)) in
-    Starts y was ey (same ∙ boots ∙ ap boot_of (sym disk)) (subst (λ k. boot_of a.disk < k) (sym same) later)
+    Starts y was ey (same ∙ boots ∙ ap boot_of (sym disk)) (subst (λ k. boot_of a.disk < k) (sym same) later) (grows_same a b c g disk)
 
 record AllSoft (slots others : List Slot) : Type 0 where
   each : (n : ℕ) (after : Slot) → slot_at others n ≡ Some after → (before : Slot) × (slot_at slots n ≡ Some before) × IsSoft before after
@@ -434,13 +454,13 @@ module _ (old : World) (order : (n : ℕ) (slot : Slot) → slot_at old.slots n 
   after_calm : (x : World) → x.slots ≡ old.slots → Carries old x → Carries x old → (own : ℕ) (node : Node) (disk : List Record) → IsUp old own node disk → (did : Reaction) → Did own node disk did → new ≡ after x own did → IsCalm old new
   after_calm x same kept came own node disk up did d is = subst (IsCalm old) (sym is) (calm_put old did.out d.quiet (record x { slots = with_slot x.slots own (slot_up did.node did.disk) })
       (calm_write old (record x { slots = with_slot x.slots own (slot_up did.node did.disk) }) own (slot_up node disk) (slot_up did.node did.disk) up
-      (Works node did.node refl refl d.boot d.calls (ap boot_of d.grew ∙ boot_with disk d.added d.bootless)) (ap (λ (s : List Slot). with_slot s own (slot_up did.node did.disk)) same) kept came))
+      (Works node did.node refl refl d.boot d.calls (ap boot_of d.grew ∙ boot_with disk d.added d.bootless) (record { rest = d.added; is = d.grew })) (ap (λ (s : List Slot). with_slot s own (slot_up did.node did.disk)) same) kept came))
 
   -- it goes down in it
   cut_calm : (x : World) → x.slots ≡ old.slots → Carries old x → Carries x old → (own : ℕ) (node : Node) (disk : List Record) → IsUp old own node disk → (did : Reaction) → Did own node disk did → NodeGoesDown x own disk did.disk new → IsCalm old new
   cut_calm x same kept came own node disk up did d g = subst (IsCalm old) (sym g.is)
       (calm_write old (cut_world x own disk g.front g.pending) own (slot_up node disk) (record { life = Down g.pending; disk = disk ++ g.front }) up
-      (IsOff (λ n e. not_up_down g.pending n e) (le_of_eq (sym (boot_with disk g.front (cut_of own node disk did d g.front g.pending g.cut)))))
+      (IsOff (λ n e. not_up_down g.pending n e) (le_of_eq (sym (boot_with disk g.front (cut_of own node disk did d g.front g.pending g.cut)))) (record { rest = g.front; is = refl }))
       (ap (λ (s : List Slot). with_slot s own (record { life = Down g.pending; disk = disk ++ g.front })) same) kept came)
 
   -- before it wrote anything
@@ -460,7 +480,7 @@ module _ (old : World) (order : (n : ℕ) (slot : Slot) → slot_at old.slots n 
   stops_calm : (n : ℕ) (disk pending next records : List Record) → slot_at old.slots n ≡ Some (record { life = Down pending; disk = disk }) → StopsStart disk pending next records
       → (mid : World) → mid.slots ≡ with_slot old.slots n (record { life = Down next; disk = records }) → Carries old mid → Carries mid old → IsCalm old mid
   stops_calm n disk pending next records here stops mid is kept came = calm_write old mid n (record { life = Down pending; disk = disk }) (record { life = Down next; disk = records }) here
-      (IsOff (λ k e. not_up_down next k e) (subst (λ r. boot_of disk ≤ boot_of r) (sym stops.records) (kept_rises n (record { life = Down pending; disk = disk }) here stops.kept stops.pending_is))) is kept came
+      (IsOff (λ k e. not_up_down next k e) (subst (λ r. boot_of disk ≤ boot_of r) (sym stops.records) (kept_rises n (record { life = Down pending; disk = disk }) here stops.kept stops.pending_is)) (record { rest = stops.kept; is = stops.records })) is kept came
 
   begins_calm : (plan : Plan) (tells : Bool) (own : ℕ) (call : NodeCall) (answer : Said) → BeginsCall plan tells old own call answer new → IsCalm old new
   begins_calm plan tells own call answer b = by b
@@ -483,7 +503,7 @@ module _ (old : World) (order : (n : ℕ) (slot : Slot) → slot_at old.slots n 
   asks_calm plan number answer (Waits node disk ticket up found got wanted e is new_world) = subst (IsCalm old) (sym new_world) (calm_same old old refl (λ letter m of. m) (λ letter m of. m))
   asks_calm plan number answer (Ends node disk ticket up found reply e is new_world) = subst (IsCalm old) (sym new_world)
       (calm_write old _ number.node (slot_up node disk) (slot_up (end_ticket number.seq node disk).node disk) up
-      (Works node (end_ticket number.seq node disk).node refl refl refl (le_refl node.calls) refl) refl (λ letter m of. m) (λ letter m of. m))
+      (Works node (end_ticket number.seq node disk).node refl refl refl (le_refl node.calls) refl (record { rest = []; is = sym (append-nil disk) })) refl (λ letter m of. m) (λ letter m of. m))
 
   posts_calm : (plan : Plan) (number : ℕ) (keep : Bool) (answer : Said) → IsForMail old (Post number keep) → Posts plan old number keep answer new → IsCalm old new
   posts_calm plan number keep answer for_mail (NobodyUp f nobody is new_world) = subst (IsCalm old) (sym new_world) (lost_calm DownKind number f keep (for_mail f))
@@ -504,14 +524,14 @@ module _ (old : World) (order : (n : ℕ) (slot : Slot) → slot_at old.slots n 
       down_calm : (v : World) → NodeGoesDown old f.letter.to disk (hear f.letter.to plan.nodes node disk f.letter).disk v → IsCalm old v
       down_calm v h = subst (IsCalm old) (sym h.is)
           (calm_write old (cut_world old f.letter.to disk h.front h.pending) f.letter.to (slot_up node disk) (record { life = Down h.pending; disk = disk ++ h.front }) up
-          (IsOff (λ n e. not_up_down h.pending n e) (le_of_eq (sym (boot_with disk h.front (cut_of f.letter.to node disk (hear f.letter.to plan.nodes node disk f.letter) d h.front h.pending h.cut)))))
+          (IsOff (λ n e. not_up_down h.pending n e) (le_of_eq (sym (boot_with disk h.front (cut_of f.letter.to node disk (hear f.letter.to plan.nodes node disk f.letter) d h.front h.pending h.cut)))) (record { rest = h.front; is = refl }))
           refl (λ letter m of. m) (λ letter m of. m))
   posts_calm plan number keep answer for_mail (IsForMaps f node disk up maps fresh is did forms new_world) =
       after_calm (record old { flying = flies_on old number f keep }) refl (λ letter m of. on_kept old number f keep (for_mail f) letter m of) (λ letter m of. flew_on old number f keep letter m) f.letter.to node disk up
       did (forms_did f.letter.to node (with_stamps f.letter.body node) disk did refl (le_refl node.calls) forms) new_world
   posts_calm plan number keep answer for_mail (FailsForMaps f node disk promise up maps fresh is down g new_world) = subst (IsCalm old) (sym new_world) (subst (λ (v : World). IsCalm old (record v { flying = flies_on old number f keep })) (sym g.is)
       (calm_write old (record (cut_world old f.letter.to disk g.front g.pending) { flying = flies_on old number f keep }) f.letter.to (slot_up node disk) (record { life = Down g.pending; disk = disk ++ g.front }) up
-      (IsOff (λ n e. not_up_down g.pending n e) (le_of_eq (sym (boot_with disk g.front (cut_of f.letter.to node disk made d g.front g.pending g.cut)))))
+      (IsOff (λ n e. not_up_down g.pending n e) (le_of_eq (sym (boot_with disk g.front (cut_of f.letter.to node disk made d g.front g.pending g.cut)))) (record { rest = g.front; is = refl }))
       refl (λ letter m of. on_kept old number f keep (for_mail f) letter m of) (λ letter m of. flew_on old number f keep letter m)))
     where
       made : Reaction
@@ -537,10 +557,11 @@ module _ (old : World) (order : (n : ℕ) (slot : Slot) → slot_at old.slots n 
   does_calm plan tells (Form n) answer of (HasNone says new_world) = subst (IsCalm old) (sym new_world) (calm_same old old refl (λ letter m r. m) (λ letter m r. m))
   does_calm plan tells (Form n) answer of (FailsForming node disk promise up is g) = cut_calm old refl (λ letter m r. m) (λ letter m r. m) n node disk up _ (promise_did n node disk promise) g
   does_calm plan tells (Crash n) answer of d = subst (IsCalm old) (sym d.new_world)
-      (calm_write old _ n d.slot (record d.slot { life = Down [] }) d.here (IsOff (λ k e. not_up_down [] k e) (le_refl (boot_of d.slot.disk))) refl (λ letter m r. m) (λ letter m r. m))
+      (calm_write old _ n d.slot (record d.slot { life = Down [] }) d.here (IsOff (λ k e. not_up_down [] k e) (le_refl (boot_of d.slot.disk)) (record { rest = []; is = sym (append-nil d.slot.disk) })) refl (λ letter m r. m) (λ letter m r. m))
   does_calm plan tells (Start n) answer of (Comes disk pending node records here starts few is new_world) = subst (IsCalm old) (sym new_world)
       (calm_write old _ n (record { life = Down pending; disk = disk }) (slot_up node records) here
-      (Starts node (λ k e. not_up_down pending k e) refl (boots ∙ sym on_disk) (subst (λ k. boot_of disk < k) (sym boots) (omega (arith, rises)))) refl (λ letter m r. m) (λ letter m r. m))
+      (Starts node (λ k e. not_up_down pending k e) refl (boots ∙ sym on_disk) (subst (λ k. boot_of disk < k) (sym boots) (omega (arith, rises)))
+      (record { rest = starts.kept ++ Boot (boot_of (disk ++ starts.kept) + 1) ∷ []; is = starts.records ∙ append_assoc disk starts.kept (Boot (boot_of (disk ++ starts.kept) + 1) ∷ []) })) refl (λ letter m r. m) (λ letter m r. m))
     where
       boots : node.boot ≡ boot_of (disk ++ starts.kept) + 1
       boots = ap (λ (k : Node). k.boot) starts.is
@@ -552,7 +573,7 @@ module _ (old : World) (order : (n : ℕ) (slot : Slot) → slot_at old.slots n 
       rises = kept_rises n (record { life = Down pending; disk = disk }) here starts.kept starts.pending_is
   does_calm plan tells (Start n) answer of (FailsStarting disk pending next records here stops is new_world) = subst (IsCalm old) (sym new_world) (stops_calm n disk pending next records here stops _ refl (λ letter m r. m) (λ letter m r. m))
   does_calm plan tells (Lose n) answer of d = subst (IsCalm old) (sym d.new_world)
-      (calm_write old _ n d.slot (record { life = Lost; disk = d.slot.disk ++ d.kept }) d.here (IsOff (λ k e. not_up_lost k e) (kept_rises n d.slot d.here d.kept d.pending_is)) refl (λ letter m r. m) (λ letter m r. m))
+      (calm_write old _ n d.slot (record { life = Lost; disk = d.slot.disk ++ d.kept }) d.here (IsOff (λ k e. not_up_lost k e) (kept_rises n d.slot d.here d.kept d.pending_is) (record { rest = d.kept; is = refl })) refl (λ letter m r. m) (λ letter m r. m))
   does_calm plan tells (Tick seconds) answer of d = subst (IsCalm old) (sym d.1) (calm_same old _ refl (λ letter m r. m) (λ letter m r. m))
 
   short_calm : (plan : Plan) (step : Step) (n : ℕ) → RunsShort plan old step n new → IsCalm old new

@@ -7,3 +7,4 @@ pub mod Putting
 pub mod Reading
 pub mod Standing
 pub mod Opening
+pub mod Told

@@ -1,5 +1,5 @@
 -- All stands in a cluster that opens.
-use Rattle.std.proofs.Common.{◌≡◌, inl, inr, ⊎_elim, ℕ, zero, suc, ◌≤◌, Bool, List, [], ◌∷◌, map, refl, sym, ap, ◌∙◌, subst}
+use Rattle.std.proofs.Common.{◌≡◌, inl, inr, ⊎_elim, ℕ, zero, suc, ◌≤◌, Bool, List, [], ◌∷◌, append-nil, map, Some, refl, sym, ap, ◌∙◌, subst}
 use Rattle.std.specs.FinMap as fin
 use Rattle.mail_model.specs.Plan.{Plan}
 use Rattle.object_model.specs.Lists.{Among}
@@ -14,6 +14,7 @@ use Rattle.whole_world.proofs.InFirst.{first_stands}
 use Rattle.login_model.specs.Cluster as login
 use Rattle.login_model.proofs.Others.{opens}
 use Rattle.joint_model.specs.Joint.{Slot, whole_slot, read_node, read_slot}
+use Rattle.joint_model.proofs.Settled.{read_back}
 use Rattle.joint_world.specs.World.{whole_world_of}
 use Rattle.joint_world.specs.Laws.{Stands, TellAlike}
 use Rattle.joint_world.specs.First.{first_node, first_slot, first_slots, first_world}
@@ -44,6 +45,12 @@ first_all_stand plan tells rows some few managed = (
     whole = subst (whole_laws.Stands plan) (sym seen) (first_stands plan rows some few managed).0;
     reads = opens (map (read_slot tells) (first_slots plan.nodes rows plan.nodes)) [] (λ slot m node up. fresh tells plan.nodes rows plan.nodes slot m node up) (λ letter m. absurd m);
     alike = alike_more tells [] (first_slots plan.nodes rows plan.nodes) (λ moment m. absurd m);
+    fronts = λ moment m n slot at. ⊎_elim
+        (λ e.
+        let r = read_back tells (first_slots plan.nodes rows plan.nodes) n slot (subst (λ (s : List login.Slot). login.slot_at s n ≡ Some slot) (sym e) at) in
+        (r.0, r.1, record { rest = []; is = ap (λ (x : login.Slot). x.disk) r.2 ∙ sym (append-nil slot.disk) }))
+        (λ none. absurd none)
+        m;
   },
   seen,
 )

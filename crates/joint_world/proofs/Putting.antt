@@ -30,17 +30,28 @@ use Rattle.joint_world.specs.Laws.{TellAlike, HasGrown}
 use Rattle.joint_world.specs.Seen.{SeesOne, SeesThrough, SeesReading}
 use Rattle.joint_world.specs.Seen.SeesOne.{Sends}
 use Rattle.joint_world.proofs.Rules.{seen_is, mishap_alone}
-use Rattle.joint_world.proofs.Views.{read_none, whole_same, whole_set, alike_more}
+use Rattle.joint_world.proofs.Views.{read_none, whole_same, whole_set, alike_more, SameDisks, disks_self, disks_on, disks_write, OfDisks, of_disks, of_disks_on}
 
--- a world with a story of slots, as calls that read see it, that has grown from a story
-pub record Grown (tells : Bool) (story : List (List login.Slot)) (P : List (List login.Slot) → Type 0) : Type 0 where
+-- A world with a story of slots, as calls that read see it, that has grown from a story: each new moment has the disks of these slots.
+pub record Grown (tells : Bool) (base : List Slot) (story : List (List login.Slot)) (P : List (List login.Slot) → Type 0) : Type 0 where
   pub now : List (List login.Slot)
   pub alike : TellAlike tells now
   pub grows : HasGrown story now
+  pub disks : (moment : List login.Slot) → Among moment now → Among moment story ⊎ OfDisks base moment
   pub holds : P now
 
-pub grown_on : (tells : Bool) (a b : List (List login.Slot)) (P : List (List login.Slot) → Type 0) → HasGrown a b → Grown tells b P → Grown tells a P
-grown_on tells a b P first g = record { now = g.now; alike = g.alike; grows = λ moment m. g.grows moment (first moment m); holds = g.holds }
+-- one moment more, with the same disks
+pub one_more : (tells : Bool) (base slots : List Slot) (story : List (List login.Slot)) (P : List (List login.Slot) → Type 0) → SameDisks base slots → Grown tells slots (map (read_slot tells) slots ∷ story) P → Grown tells base story P
+one_more tells base slots story P same g = record {
+  now = g.now;
+  alike = g.alike;
+  grows = λ moment m. g.grows moment (inr m);
+  disks = λ moment m. ⊎_elim
+      (λ inside. ⊎_elim (λ is. inr (subst (OfDisks base) is (of_disks tells base slots same))) (λ old. inl old) inside)
+      (λ of. inr (of_disks_on base slots moment same of))
+      (g.disks moment m);
+  holds = g.holds;
+}
 
 -- whether there is room, by letters alone
 abbrev pub room : List Letter → Letter → Bool
@@ -74,8 +85,8 @@ module _ (tells : Bool) where
   abbrev Seen : ℕ → List Letter → List (List login.Slot) → World → World → List (List login.Slot) → Type 0
   Seen fuel queue story w new now = login_putting.put room fuel queue (R story w) ≡ Some (R now new)
 
-  seen_puts : (fuel : ℕ) (queue : List Letter) (story : List (List login.Slot)) (w new : World) → TellAlike tells story → put tells fuel queue w ≡ Some new → Grown tells story (Seen fuel queue story w new)
-  seen_puts fuel [] story w new alike e = record { now = story; alike = alike; grows = λ moment m. m; holds = ap (λ (v : World). Some (R story v)) (some_is w new e) }
+  seen_puts : (fuel : ℕ) (queue : List Letter) (story : List (List login.Slot)) (w new : World) → TellAlike tells story → put tells fuel queue w ≡ Some new → Grown tells w.slots story (Seen fuel queue story w new)
+  seen_puts fuel [] story w new alike e = record { now = story; alike = alike; grows = λ moment m. m; disks = λ moment m. inl m; holds = ap (λ (v : World). Some (R story v)) (some_is w new e) }
     where
       some_is : (a b : World) → Some a ≡ Some b → a ≡ b
       some_is a b p = cc
@@ -83,40 +94,42 @@ module _ (tells : Bool) where
   seen_puts (suc fuel) (letter ∷ queue) story w new alike e = by (has_room w.flying letter) refl (λ q s v a f. seen_puts fuel q s v new a f) e
     where
       Rest : Type 0
-      Rest = (q : List Letter) (s : List (List login.Slot)) (v : World) → TellAlike tells s → put tells fuel q v ≡ Some new → Grown tells s (Seen fuel q s v new)
+      Rest = (q : List Letter) (s : List (List login.Slot)) (v : World) → TellAlike tells s → put tells fuel q v ≡ Some new → Grown tells v.slots s (Seen fuel q s v new)
 
       -- where it finds room
-      flies : has_room w.flying letter ≡ true → Grown tells story (λ now. login_putting.put room fuel queue (record (R story w) { flying = letters_of w.flying ++ letter ∷ [] }) ≡ Some (R now new)) → Grown tells story (Seen (suc fuel) (letter ∷ queue) story w new)
+      flies : has_room w.flying letter ≡ true → Grown tells w.slots story (λ now. login_putting.put room fuel queue (record (R story w) { flying = letters_of w.flying ++ letter ∷ [] }) ≡ Some (R now new)) → Grown tells w.slots story (Seen (suc fuel) (letter ∷ queue) story w new)
       flies h g = record {
         now = g.now;
         alike = g.alike;
         grows = g.grows;
+        disks = g.disks;
         holds = ap (λ (b : Bool). if b then login_putting.put room fuel queue (record (R story w) { flying = letters_of w.flying ++ letter ∷ [] }) else login_putting.missed (login_putting.put room fuel) queue (R story w) letter letter.ticket)
             (room_is w.flying letter ∙ h) ∙ g.holds;
       }
 
       -- and where it does not
-      misses : has_room w.flying letter ≡ false → Grown tells story (λ now. login_putting.missed (login_putting.put room fuel) queue (R story w) letter letter.ticket ≡ Some (R now new)) → Grown tells story (Seen (suc fuel) (letter ∷ queue) story w new)
+      misses : has_room w.flying letter ≡ false → Grown tells w.slots story (λ now. login_putting.missed (login_putting.put room fuel) queue (R story w) letter letter.ticket ≡ Some (R now new)) → Grown tells w.slots story (Seen (suc fuel) (letter ∷ queue) story w new)
       misses h g = record {
         now = g.now;
         alike = g.alike;
         grows = g.grows;
+        disks = g.disks;
         holds = ap (λ (b : Bool). if b then login_putting.put room fuel queue (record (R story w) { flying = letters_of w.flying ++ letter ∷ [] }) else login_putting.missed (login_putting.put room fuel) queue (R story w) letter letter.ticket)
             (room_is w.flying letter ∙ h) ∙ g.holds;
       }
 
       -- nothing is noted
-      alone : Rest → put tells fuel (queue ++ []) w ≡ Some new → Grown tells story (λ now. login_putting.put room fuel queue (R story w) ≡ Some (R now new))
+      alone : Rest → put tells fuel (queue ++ []) w ≡ Some new → Grown tells w.slots story (λ now. login_putting.put room fuel queue (R story w) ≡ Some (R now new))
       alone rest f = rest queue story w alike (subst (λ q. put tells fuel q w ≡ Some new) (append-nil queue) f)
 
       Missing : Type 0
-      Missing = Grown tells story (λ now. login_putting.missed (login_putting.put room fuel) queue (R story w) letter letter.ticket ≡ Some (R now new))
+      Missing = Grown tells w.slots story (λ now. login_putting.missed (login_putting.put room fuel) queue (R story w) letter letter.ticket ≡ Some (R now new))
 
-      by_life : Rest → (number : Number) (slot : Slot) (life : Life) → put tells fuel (queue ++ (missed_by tells Crowded w.slots letter number slot.disk life).out) (record w { slots = (missed_by tells Crowded w.slots letter number slot.disk life).slots }) ≡ Some new
-          → Grown tells story (λ now. missed_life (login_putting.put room fuel) queue (R story w) letter number slot.disk (read_slot tells (record { life = life; disk = slot.disk })).life ≡ Some (R now new))
-      by_life rest number slot (Down pending) f = alone rest f
-      by_life rest number slot Lost f = alone rest f
-      by_life rest number slot (Up node) f =
+      by_life : Rest → (number : Number) (slot : Slot) → slot_at w.slots number.node ≡ Some slot → (life : Life) → put tells fuel (queue ++ (missed_by tells Crowded w.slots letter number slot.disk life).out) (record w { slots = (missed_by tells Crowded w.slots letter number slot.disk life).slots }) ≡ Some new
+          → Grown tells w.slots story (λ now. missed_life (login_putting.put room fuel) queue (R story w) letter number slot.disk (read_slot tells (record { life = life; disk = slot.disk })).life ≡ Some (R now new))
+      by_life rest number slot at (Down pending) f = alone rest f
+      by_life rest number slot at Lost f = alone rest f
+      by_life rest number slot at (Up node) f =
           let did = befallen tells number.node Crowded (far_end letter number) node number in
           let v : World = record w { slots = with_slot w.slots number.node (slot_up did.node slot.disk) } in
           let moment : List login.Slot = map (read_slot tells) v.slots in
@@ -124,41 +137,44 @@ module _ (tells : Bool) where
           let rule = login_rules.mishap number.node Crowded (far_end letter number) (read_node tells node) number in
           let same = noted_slots Crowded w.slots letter number node slot.disk in
           let seen : with_did (R story w) number.node slot.disk rule ≡ R (moment ∷ story) v = λ i. record { slots = sym same i; flying = letters_of w.flying; story = sym same i ∷ story } in
+          let disks : SameDisks w.slots v.slots = disks_write w.slots number.node slot (slot_up did.node slot.disk) at refl in
+          let one = one_more tells w.slots v.slots story (Seen fuel (queue ++ did.out) (moment ∷ story) v new) disks g in
           record {
-            now = g.now;
-            alike = g.alike;
-            grows = λ m inside. g.grows m (inr inside);
-            holds = ap (λ (c : login.Cluster). login_putting.put room fuel (queue ++ rule.out) c) seen ∙ g.holds;
+            now = one.now;
+            alike = one.alike;
+            grows = one.grows;
+            disks = one.disks;
+            holds = ap (λ (c : login.Cluster). login_putting.put room fuel (queue ++ rule.out) c) seen ∙ one.holds;
           }
 
       by_slot : Rest → (number : Number) (o : Option Slot) → slot_at w.slots number.node ≡ o → put tells fuel (queue ++ (missed_at tells Crowded w.slots letter number o).out) (record w { slots = (missed_at tells Crowded w.slots letter number o).slots }) ≡ Some new
-          → Grown tells story (λ now. missed_slot (login_putting.put room fuel) queue (R story w) letter number (login.slot_at (R story w).slots number.node) ≡ Some (R now new))
-      by_slot rest number None at f = subst (λ (o : Option login.Slot). Grown tells story (λ now. missed_slot (login_putting.put room fuel) queue (R story w) letter number o ≡ Some (R now new))) (sym (read_none tells w.slots number.node at)) (alone rest f)
-      by_slot rest number (Some slot) at f = subst (λ (o : Option login.Slot). Grown tells story (λ now. missed_slot (login_putting.put room fuel) queue (R story w) letter number o ≡ Some (R now new)))
-          (sym (read_here tells w.slots number.node slot at)) (by_life rest number slot slot.life f)
+          → Grown tells w.slots story (λ now. missed_slot (login_putting.put room fuel) queue (R story w) letter number (login.slot_at (R story w).slots number.node) ≡ Some (R now new))
+      by_slot rest number None at f = subst (λ (o : Option login.Slot). Grown tells w.slots story (λ now. missed_slot (login_putting.put room fuel) queue (R story w) letter number o ≡ Some (R now new))) (sym (read_none tells w.slots number.node at)) (alone rest f)
+      by_slot rest number (Some slot) at f = subst (λ (o : Option login.Slot). Grown tells w.slots story (λ now. missed_slot (login_putting.put room fuel) queue (R story w) letter number o ≡ Some (R now new)))
+          (sym (read_here tells w.slots number.node slot at)) (by_life rest number slot at slot.life f)
 
       by_ticket : Rest → (ticket : Option Number) → put tells fuel (queue ++ (missed_under tells Crowded w.slots letter ticket).out) (record w { slots = (missed_under tells Crowded w.slots letter ticket).slots }) ≡ Some new
-          → Grown tells story (λ now. login_putting.missed (login_putting.put room fuel) queue (R story w) letter ticket ≡ Some (R now new))
+          → Grown tells w.slots story (λ now. login_putting.missed (login_putting.put room fuel) queue (R story w) letter ticket ≡ Some (R now new))
       by_ticket rest None f = alone rest f
       by_ticket rest (Some number) f = by_slot rest number (slot_at w.slots number.node) refl f
 
       by : (b : Bool) → has_room w.flying letter ≡ b → Rest
           → (if b then put tells fuel queue (with_letter w letter) else put tells fuel (queue ++ (missed tells Crowded w.slots letter).out) (record w { slots = (missed tells Crowded w.slots letter).slots })) ≡ Some new
-          → Grown tells story (Seen (suc fuel) (letter ∷ queue) story w new)
+          → Grown tells w.slots story (Seen (suc fuel) (letter ∷ queue) story w new)
       by true h rest f =
           let g = rest queue story (with_letter w letter) alike f in
           let same : R story (with_letter w letter) ≡ record (R story w) { flying = letters_of w.flying ++ letter ∷ [] } =
           λ i. record { slots = map (read_slot tells) w.slots; flying = letters_both w.flying (record { number = w.sent + 1; letter = letter } ∷ []) i; story = story } in
-          flies h (record { now = g.now; alike = g.alike; grows = g.grows; holds = subst (λ (c : login.Cluster). login_putting.put room fuel queue c ≡ Some (R g.now new)) same g.holds })
+          flies h (record { now = g.now; alike = g.alike; grows = g.grows; disks = g.disks; holds = subst (λ (c : login.Cluster). login_putting.put room fuel queue c ≡ Some (R g.now new)) same g.holds })
       by false h rest f = misses h (by_ticket rest letter.ticket f)
 
   -- so it stays sound
   pub puts_sound : (queue : List Letter) (story : List (List login.Slot)) (w new : World) → TellAlike tells story → Puts tells queue w new → login_parts.Sound (with_queue (R story w) queue)
-      → Grown tells story (λ now. login_parts.Sound (R now new))
+      → Grown tells w.slots story (λ now. login_parts.Sound (R now new))
   puts_sound queue story w new alike (fuel, e) s =
       let g = seen_puts fuel queue story w new alike e in
       let m = puts_may room fuel queue (R story w) (R g.now new) g.holds s in
-      record { now = g.now; alike = g.alike; grows = g.grows; holds = subst login_parts.Sound m.2 (login_kept.all_kept (with_queue (R story w) queue) m.0 m.1 s) }
+      record { now = g.now; alike = g.alike; grows = g.grows; disks = g.disks; holds = subst login_parts.Sound m.2 (login_kept.all_kept (with_queue (R story w) queue) m.0 m.1 s) }
 
   -- As the whole machine sees it: letters of nodes that are up are sent.
   pub record Sender (slots : List whole.Slot) (letter : Letter) : Type 0 where
@@ -207,6 +223,41 @@ module _ (tells : Bool) where
       of : (ticket : Option Number) → Said (missed_under tells kind slots letter ticket)
       of None = none
       of (Some number) = by_slot number (slot_at slots number.node) refl
+
+-- neither a mishap nor a letter that is put in flight changes a disk
+module _ (tells : Bool) where
+  pub missed_disks : (kind : MishapKind) (slots : List Slot) (letter : Letter) → SameDisks slots (missed tells kind slots letter).slots
+  missed_disks kind slots letter = of letter.ticket
+    where
+      by_life : (number : Number) (slot : Slot) → slot_at slots number.node ≡ Some slot → (life : Life) → SameDisks slots (missed_by tells kind slots letter number slot.disk life).slots
+      by_life number slot at (Down pending) = disks_self slots
+      by_life number slot at Lost = disks_self slots
+      by_life number slot at (Up node) = disks_write slots number.node slot (slot_up (befallen tells number.node kind (far_end letter number) node number).node slot.disk) at refl
+
+      by_slot : (number : Number) (o : Option Slot) → slot_at slots number.node ≡ o → SameDisks slots (missed_at tells kind slots letter number o).slots
+      by_slot number None at = disks_self slots
+      by_slot number (Some slot) at = by_life number slot at slot.life
+
+      of : (ticket : Option Number) → SameDisks slots (missed_under tells kind slots letter ticket).slots
+      of None = disks_self slots
+      of (Some number) = by_slot number (slot_at slots number.node) refl
+
+  put_disks : (fuel : ℕ) (queue : List Letter) (w new : World) → put tells fuel queue w ≡ Some new → SameDisks w.slots new.slots
+  put_disks fuel [] w new e = subst (λ (v : World). SameDisks w.slots v.slots) (some_is w new e) (disks_self w.slots)
+    where
+      some_is : (a b : World) → Some a ≡ Some b → a ≡ b
+      some_is a b p = cc
+  put_disks zero (letter ∷ queue) w new e = absurd (cc e)
+  put_disks (suc fuel) (letter ∷ queue) w new e = by (has_room w.flying letter) (λ q v f. put_disks fuel q v new f) e
+    where
+      by : (b : Bool) → ((q : List Letter) (v : World) → put tells fuel q v ≡ Some new → SameDisks v.slots new.slots)
+          → (if b then put tells fuel queue (with_letter w letter) else put tells fuel (queue ++ (missed tells Crowded w.slots letter).out) (record w { slots = (missed tells Crowded w.slots letter).slots })) ≡ Some new → SameDisks w.slots new.slots
+      by true rest f = rest queue (with_letter w letter) f
+      by false rest f = disks_on w.slots (missed tells Crowded w.slots letter).slots new.slots (missed_disks Crowded w.slots letter)
+          (rest (queue ++ (missed tells Crowded w.slots letter).out) (record w { slots = (missed tells Crowded w.slots letter).slots }) f)
+
+  pub puts_disks : (queue : List Letter) (w new : World) → Puts tells queue w new → SameDisks w.slots new.slots
+  puts_disks queue w new (fuel, e) = put_disks fuel queue w new e
 
 pub through_on : (a b c : whole_world.World) (first second : List whole_world.World) → SeesThrough a first b → SeesThrough b second c → SeesThrough a (first ++ second) c
 through_on a b c [] second is q = subst (λ (w : whole_world.World). SeesThrough w second c) is q

@@ -31,15 +31,20 @@ use Rattle.joint_model.specs.Joint.Life.{Up, Down, Lost}
 use Rattle.joint_model.proofs.Kept.{whole_here, read_here, read_set}
 use Rattle.joint_model.proofs.Settled.{read_back}
 use Rattle.joint_world.specs.World.{World, whole_world_of, mail_world_of, reads_of, IsUp}
-use Rattle.joint_world.specs.Rules.{Reaction, reacted}
+use Rattle.joint_world.specs.Rules.{Reaction, reacted, befallen}
 use Rattle.joint_world.specs.Putting.{Missed, missed_by, missed_at, missed_under, missed, Puts}
 use Rattle.joint_world.specs.Makes.{learnt, Does, Loses, fallen}
 use Rattle.joint_world.specs.Laws.{TellAlike, HasGrown}
 use Rattle.joint_world.specs.Seen.{SeesOne, SeesReading}
 use Rattle.joint_world.specs.Seen.SeesOne.{Learns, Draws, Takes, Falls}
 use Rattle.joint_world.proofs.Rules.{Alone, seen_is}
-use Rattle.joint_world.proofs.Views.{whole_same, whole_again, whole_set, whole_there, alike_more}
-use Rattle.joint_world.proofs.Putting.{Grown, noted_slots, puts_sound, Sender, missed_seen, sees_on, sees_same, sees_one, puts_see}
+use Rattle.joint_world.proofs.Views.{whole_same, whole_again, whole_set, whole_there, alike_more, SameDisks, disks_on, disks_write, OfDisks, of_disks, of_disks_on}
+use Rattle.joint_world.proofs.Putting.{Grown, one_more, noted_slots, puts_sound, Sender, missed_seen, missed_disks, puts_disks, sees_on, sees_same, sees_one, puts_see}
+
+-- a step of a call that reads: what is known of these calls is known with a longer story, and no disk changes
+pub record Kept (tells : Bool) (story : List (List login.Slot)) (old new : World) : Type 0 where
+  pub grown : Grown tells old.slots story (λ now. login_parts.Sound (reads_of tells now new))
+  pub disks : SameDisks old.slots new.slots
 
 -- letters about one that is taken out or kept
 pub left_of : (w : World) (number : ℕ) (flies : mail.Flies (mail_world_of w) number) (keep : Bool) (one : Letter) → Among one (letters_of (mail.flies_on (mail_world_of w) number flies keep)) → Among one (letters_of w.flying)
@@ -75,18 +80,22 @@ module _ (tells : Bool) where
 
   module _ (story : List (List login.Slot)) (old : World) (alike : TellAlike tells story) (s : login_parts.Sound (R story old)) where
     abbrev Goal : World → Type 0
-    Goal new = Grown tells story (λ now. login_parts.Sound (R now new))
+    Goal new = Kept tells story old new
 
     -- from a moment more
-    more : (slots : List Slot) (new : World) → Grown tells (seen_slots slots ∷ story) (λ now. login_parts.Sound (R now new)) → Goal new
-    more slots new g = record { now = g.now; alike = g.alike; grows = λ moment m. g.grows moment (inr m); holds = g.holds }
+    more : (slots : List Slot) (new : World) → SameDisks old.slots slots → SameDisks slots new.slots → Grown tells slots (seen_slots slots ∷ story) (λ now. login_parts.Sound (R now new)) → Goal new
+    more slots new first second g = record { grown = one_more tells old.slots slots story (λ now. login_parts.Sound (R now new)) first g; disks = disks_on old.slots slots new.slots first second }
 
     -- A node that hears nothing does something, and its letters are put in flight.
     pub does_sound : (own : ℕ) (node : Node) (disk : List Record) → IsUp old own node disk → (did : login_rules.Reaction) (locks : Held) → Alone (read_node tells node) did.node
         → (login_moves.IsReady own (login.slot_up (read_node tells node) disk) None → login_moves.IsCallDone (login_laws.act_of own (read_node tells node) disk did None))
         → (new : World) → Does tells old own disk (reacted node did locks) new → Goal new
-    does_sound own node disk up did locks same acts new puts = more turned.slots new (puts_sound tells did.out (seen_slots turned.slots ∷ story) turned new (alike_more tells story turned.slots alike) puts acted)
+    does_sound own node disk up did locks same acts new puts = more turned.slots new (disks_write old.slots own (slot_up node disk) now up refl) (puts_disks tells did.out turned new puts)
+        (puts_sound tells did.out (seen_slots turned.slots ∷ story) turned new (alike_more tells story turned.slots alike) puts acted)
       where
+        now : Slot
+        now = slot_up (reacted node did locks).node disk
+
         turned : World
         turned = record old { slots = with_slot old.slots own (slot_up (reacted node did locks).node disk) }
 
@@ -104,13 +113,17 @@ module _ (tells : Bool) where
         → (login_moves.IsReady flies.letter.to (login.slot_up (read_node tells node) disk) (Some flies.letter) → login_moves.IsCallDone (login_laws.act_of flies.letter.to (read_node tells node) disk did (Some flies.letter)))
         → (new : World) → Does tells (record old { flying = mail.flies_on (mail_world_of old) number flies keep }) flies.letter.to disk (reacted (learnt node body) did locks) new → Goal new
     heard_sound number flies keep node disk up body did locks same acts new puts =
-        more turned.slots new (puts_sound tells did.out (seen_slots turned.slots ∷ story) turned new (alike_more tells story turned.slots alike) puts acted)
+        more turned.slots new (disks_write old.slots own (slot_up node disk) now up refl) (puts_disks tells did.out turned new puts)
+        (puts_sound tells did.out (seen_slots turned.slots ∷ story) turned new (alike_more tells story turned.slots alike) puts acted)
       where
         own : ℕ
         own = flies.letter.to
 
         left : List Letter
         left = letters_of (mail.flies_on (mail_world_of old) number flies keep)
+
+        now : Slot
+        now = slot_up (reacted (learnt node body) did locks).node disk
 
         turned : World
         turned = record old { slots = with_slot old.slots own (slot_up (reacted (learnt node body) did locks).node disk); flying = mail.flies_on (mail_world_of old) number flies keep }
@@ -139,16 +152,27 @@ module _ (tells : Bool) where
     lost_sound kind letter left flies fewer others v slots flying new puts = go (missed_under tells kind old.slots letter letter.ticket) refl (of letter.ticket refl)
       where
         Known : Missed → Type 0
-        Known m = (grown : List (List login.Slot)) × TellAlike tells grown × HasGrown story grown × login_parts.Sound (record { slots = seen_slots m.slots; flying = left ++ m.out; story = grown })
+        Known m = (grown : List (List login.Slot)) × TellAlike tells grown × HasGrown story grown × ((moment : List login.Slot) → Among moment grown → Among moment story ⊎ OfDisks old.slots moment)
+            × login_parts.Sound (record { slots = seen_slots m.slots; flying = left ++ m.out; story = grown })
 
         go : (m : Missed) → missed tells kind old.slots letter ≡ m → Known m → Goal new
-        go m is (grown, now, grows, sound) =
+        go m is (grown, now, grows, disks, sound) =
             let there : v.slots ≡ m.slots = slots ∙ ap (λ (x : Missed). x.slots) is in
             let out : (missed tells kind old.slots letter).out ≡ m.out = ap (λ (x : Missed). x.out) is in
             let ready : login_parts.Sound (with_queue (R grown v) (missed tells kind old.slots letter).out) =
             subst (λ (c : login.Cluster). login_parts.Sound c) (λ i. record { slots = seen_slots (sym there i); flying = sym flying i ++ sym out i; story = grown }) sound in
             let g = puts_sound tells (missed tells kind old.slots letter).out grown v new now puts ready in
-            record { now = g.now; alike = g.alike; grows = λ moment k. g.grows moment (grows moment k); holds = g.holds }
+            let same : SameDisks old.slots v.slots = subst (SameDisks old.slots) (sym slots) (missed_disks tells kind old.slots letter) in
+            record {
+              grown = record {
+                now = g.now;
+                alike = g.alike;
+                grows = λ moment k. g.grows moment (grows moment k);
+                disks = λ moment k. ⊎_elim (λ inside. disks moment inside) (λ of_. inr (of_disks_on old.slots v.slots moment same of_)) (g.disks moment k);
+                holds = g.holds;
+              };
+              disks = disks_on old.slots v.slots new.slots same (puts_disks tells (missed tells kind old.slots letter).out v new puts);
+            }
 
         -- nothing is noted
         quiet : ((number : Number) → letter.ticket ≡ Some number → (reading : Reading) → login.NodesRead (seen_slots old.slots) number reading → ⊥) → Known (record { slots = old.slots; out = [] })
@@ -156,6 +180,7 @@ module _ (tells : Bool) where
           story,
           alike,
           λ moment k. k,
+          λ moment k. inl k,
           subst (λ (f : List Letter). login_parts.Sound (record { slots = seen_slots old.slots; flying = f; story = story })) (sym (append-nil left))
               (login_kept.all_kept (R story old) (login_moves.Move.Taken letter left ∷ []) (late_may (R story old) letter left fewer others nobody, tt) s),
         )
@@ -185,6 +210,8 @@ module _ (tells : Bool) where
           seen_slots now ∷ story,
           alike_more tells story now alike,
           λ moment k. inr k,
+          λ moment k. ⊎_elim (λ e. inr (subst (OfDisks old.slots) e (of_disks tells old.slots now (disks_write old.slots number.node slot (slot_up (befallen tells number.node kind (far_end letter number) node number).node slot.disk) at refl))))
+              (λ stood. inl stood) k,
           subst (λ (x : List login.Slot). login_parts.Sound (record { slots = x; flying = left ++ rule.out; story = x ∷ story })) (sym (noted_slots tells kind old.slots letter number node slot.disk))
               (login_kept.all_kept (R story old) (lost_moves number.node (read_node tells node) slot.disk kind letter number left)
               (lost_may (R story old) s kind letter number left t flies fewer others (read_node tells node) slot.disk
@@ -214,17 +241,24 @@ module _ (tells : Bool) where
     -- a node goes down as its disk fails
     pub fell_sound : (own : ℕ) (node : Node) (disk : List Record) → IsUp old own node disk → Goal (fallen old own disk)
     fell_sound own node disk up = record {
-      now = seen_slots down.slots ∷ story;
-      alike = alike_more tells story down.slots alike;
-      grows = λ moment m. inr m;
-      holds = subst (λ (x : List login.Slot). login_parts.Sound (record { slots = x; flying = letters_of old.flying; story = x ∷ story })) (sym (read_set tells old.slots own (record { life = Down []; disk = disk })))
-          (subst (λ (f : List Letter). login_parts.Sound (record { slots = login.with_slot (seen_slots old.slots) own off; flying = f; story = login.with_slot (seen_slots old.slots) own off ∷ story })) (append-nil (letters_of old.flying))
-          (login_kept.kept (login_moves.Move.Acted act) (R story old)
-          (read_here tells old.slots own (slot_up node disk) up, (λ ready. falls own act.before login.Life.Down disk None (inl refl) (le_refl (boot_of disk)) ready), λ letter e. absurd (cc e)) s));
+      grown = record {
+        now = seen_slots down.slots ∷ story;
+        alike = alike_more tells story down.slots alike;
+        grows = λ moment m. inr m;
+        disks = λ moment m. ⊎_elim (λ e. inr (subst (OfDisks old.slots) e (of_disks tells old.slots down.slots same))) (λ stood. inl stood) m;
+        holds = subst (λ (x : List login.Slot). login_parts.Sound (record { slots = x; flying = letters_of old.flying; story = x ∷ story })) (sym (read_set tells old.slots own (record { life = Down []; disk = disk })))
+            (subst (λ (f : List Letter). login_parts.Sound (record { slots = login.with_slot (seen_slots old.slots) own off; flying = f; story = login.with_slot (seen_slots old.slots) own off ∷ story })) (append-nil (letters_of old.flying))
+            (login_kept.kept (login_moves.Move.Acted act) (R story old)
+            (read_here tells old.slots own (slot_up node disk) up, (λ ready. falls own act.before login.Life.Down disk None (inl refl) (le_refl (boot_of disk)) ready), λ letter e. absurd (cc e)) s));
+      };
+      disks = same;
     }
       where
         down : World
         down = fallen old own disk
+
+        same : SameDisks old.slots down.slots
+        same = disks_write old.slots own (slot_up node disk) (record { life = Down []; disk = disk }) up refl
 
         off : login.Slot
         off = record { life = login.Life.Down; disk = disk }

@@ -1,5 +1,5 @@
 -- Whatever steps are made, all that stands goes on standing.
-use Rattle.std.proofs.Common.{◌≡◌, ◌≢◌, ◌⊎◌, inl, inr, ⊎_elim, ℕ, ◌+◌, ◌≤◌, arith, Bool, true, false, not, ◌&&◌, List, [], ◌∷◌, ◌++◌, append-nil, map, Option, Some, None, is_some, refl, sym, ap, ◌∙◌, subst, le_refl, true≢false}
+use Rattle.std.proofs.Common.{◌≡◌, ◌≢◌, ◌⊎◌, inl, inr, ⊎_elim, ℕ, ◌+◌, ◌≤◌, arith, Bool, true, false, not, ◌&&◌, List, [], ◌∷◌, ◌++◌, append-nil, append_assoc, map, Option, Some, None, is_some, refl, sym, ap, ◌∙◌, subst, le_refl, true≢false}
 use Rattle.mail_model.specs.Plan.{Plan}
 use Rattle.mail_model.specs.Record.{Record}
 use Rattle.object_model.specs.Lists.{Among}
@@ -48,6 +48,7 @@ use Rattle.login_model.proofs.Going.{login_goes, fetch_goes, give_up_goes, leave
 use Rattle.joint_model.specs.Joint.{Node, Slot, slot_at, with_slot, slot_up, whole_slot, read_node, read_slot}
 use Rattle.joint_model.specs.Moves as joint_moves
 use Rattle.joint_model.proofs.Kept.{whole_here, read_here, read_set}
+use Rattle.joint_model.proofs.Settled.{read_back}
 use Rattle.joint_world.specs.World.{World, cluster_of, whole_world_of, mail_world_of, reads_of, IsUp}
 use Rattle.joint_world.specs.Rules.{Reaction, reacted, judged_here, asked_of, LogsIn, Fetches, Hears, ended, given_up, left}
 use Rattle.joint_world.specs.Putting.{missed, Puts}
@@ -61,14 +62,14 @@ use Rattle.joint_world.specs.Makes.PostsRead.{NobodyUp, OfOtherEpoch, TooLate, I
 use Rattle.joint_world.specs.Makes.DoesStep.{ForWhole, Begins, Asks, GivesUp, Posts, Drops}
 use Rattle.joint_world.specs.Seen.{SeesOne, SeesReading, SeesStep}
 use Rattle.joint_world.specs.Seen.SeesOne.{Refuses}
-use Rattle.joint_world.specs.Laws.{TellAlike, Stands, HasGrown}
+use Rattle.joint_world.specs.Laws.{TellAlike, IsFront, HasFronts, Stands, HasGrown}
 use Rattle.joint_world.proofs.Keeping.{through_keeps}
-use Rattle.joint_world.proofs.Calm.{IsCalm, makes_calm}
-use Rattle.joint_world.proofs.Views.{whole_set, login_same, alike_more}
+use Rattle.joint_world.proofs.Calm.{IsCalm, grows_in, makes_calm}
+use Rattle.joint_world.proofs.Views.{mail_at, mail_back, whole_set, login_same, alike_more, SameDisks, disks_self, disks_on, disks_write, OfDisks, of_disks, of_disks_on}
 use Rattle.joint_world.proofs.Beside.{besides}
 use Rattle.joint_world.proofs.Rules.{Alone, alone_self, begins_alone, ends_alone, word_here, heard_by}
-use Rattle.joint_world.proofs.Putting.{Grown, sees_on, sees_same, sees_one}
-use Rattle.joint_world.proofs.Reading.{left_of, others_of, does_sound, heard_sound, lost_sound, fell_sound, does_sees, taken_sees, missed_sees, loses_sees, heard_sees, fell_sees}
+use Rattle.joint_world.proofs.Putting.{sees_on, sees_same, sees_one}
+use Rattle.joint_world.proofs.Reading.{Kept, left_of, others_of, does_sound, heard_sound, lost_sound, fell_sound, does_sees, taken_sees, missed_sees, loses_sees, heard_sees, fell_sees}
 
 -- a letter that is late is heard by the rule that does nothing
 module _ (plan : Plan) (tells : Bool) (own : ℕ) (node : Node) (disk : List Record) (letter : Letter) where
@@ -186,21 +187,28 @@ module _ (plan : Plan) (tells : Bool) (old : World) where
     R s w = reads_of tells s w
 
     abbrev Goal : World → Type 0
-    Goal new = Grown tells story (λ now. login_parts.Sound (R now new))
+    Goal new = Kept tells story old new
 
     same_sound : (new : World) → new ≡ old → Goal new
-    same_sound new is = record { now = story; alike = stands.alike; grows = λ moment m. m; holds = subst (λ (w : World). login_parts.Sound (R story w)) (sym is) stands.reads }
+    same_sound new is = record {
+      grown = record { now = story; alike = stands.alike; grows = λ moment m. m; disks = λ moment m. inl m; holds = subst (λ (w : World). login_parts.Sound (R story w)) (sym is) stands.reads };
+      disks = subst (λ (w : World). SameDisks old.slots w.slots) (sym is) (disks_self old.slots);
+    }
 
     -- a call that fails at once
     refused_sound : (own : ℕ) (node : Node) (disk : List Record) (kind : CallKind) → IsUp old own node disk → Goal (record old { slots = with_slot old.slots own (slot_up (refused kind node disk) disk) })
     refused_sound own node disk kind up = record {
-      now = map (read_slot tells) turned ∷ story;
-      alike = alike_more tells story turned stands.alike;
-      grows = λ moment m. inr m;
-      holds = subst (λ (x : List login.Slot). login_parts.Sound (record { slots = x; flying = letters_of old.flying; story = x ∷ story })) (sym (read_set tells old.slots own now))
-          (subst (λ (f : List Letter). login_parts.Sound (record { slots = login.with_slot (map (read_slot tells) old.slots) own (read_slot tells now); flying = f; story = login.with_slot (map (read_slot tells) old.slots) own (read_slot tells now) ∷ story }))
-          (append-nil (letters_of old.flying))
-          (login_kept.kept (login_moves.Move.Acted act) (R story old) (read_here tells old.slots own (slot_up node disk) up, (λ ready. (acts ready).is), λ letter e. absurd (cc e)) stands.reads));
+      grown = record {
+        now = map (read_slot tells) turned ∷ story;
+        alike = alike_more tells story turned stands.alike;
+        grows = λ moment m. inr m;
+        disks = λ moment m. ⊎_elim (λ e. inr (subst (OfDisks old.slots) e (of_disks tells old.slots turned same))) (λ stood. inl stood) m;
+        holds = subst (λ (x : List login.Slot). login_parts.Sound (record { slots = x; flying = letters_of old.flying; story = x ∷ story })) (sym (read_set tells old.slots own now))
+            (subst (λ (f : List Letter). login_parts.Sound (record { slots = login.with_slot (map (read_slot tells) old.slots) own (read_slot tells now); flying = f; story = login.with_slot (map (read_slot tells) old.slots) own (read_slot tells now) ∷ story }))
+            (append-nil (letters_of old.flying))
+            (login_kept.kept (login_moves.Move.Acted act) (R story old) (read_here tells old.slots own (slot_up node disk) up, (λ ready. (acts ready).is), λ letter e. absurd (cc e)) stands.reads));
+      };
+      disks = same;
     }
       where
         now : Slot
@@ -208,6 +216,9 @@ module _ (plan : Plan) (tells : Bool) (old : World) where
 
         turned : List Slot
         turned = with_slot old.slots own now
+
+        same : SameDisks old.slots turned
+        same = disks_write old.slots own (slot_up node disk) now up refl
 
         act : login_moves.NodeAct
         act = record { node = own; before = login.slot_up (read_node tells node) disk; after = login.slot_up (read_node tells (refused kind node disk)) disk; heard = None; out = [] }
@@ -251,19 +262,23 @@ module _ (plan : Plan) (tells : Bool) (old : World) where
     late_sound : (number : ℕ) (flies : mail.Flies (mail_world_of old) number) (keep : Bool) (node : Node) (disk : List Record) → IsUp old flies.letter.to node disk → IsReadBody flies.letter.body
         → is_late_read flies.letter.to node flies.letter ≡ true → Goal (record old { flying = mail.flies_on (mail_world_of old) number flies keep })
     late_sound number flies keep node disk up of late = record {
-      now = map (read_slot tells) old.slots ∷ story;
-      alike = alike_more tells story old.slots stands.alike;
-      grows = λ moment m. inr m;
-      holds = subst (λ (x : List login.Slot). login_parts.Sound (record { slots = x; flying = flying; story = x ∷ story })) (login_same (map (read_slot tells) old.slots) own (login.slot_up (read_node tells node) disk) there)
-          (subst (λ (f : List Letter). login_parts.Sound (record {
-            slots = login.with_slot (map (read_slot tells) old.slots) own (login.slot_up (read_node tells node) disk);
-            flying = f;
-            story = login.with_slot (map (read_slot tells) old.slots) own (login.slot_up (read_node tells node) disk) ∷ story;
-          })) (append-nil flying)
-          (login_kept.all_kept (R story old) (login_moves.Move.Acted act ∷ login_moves.Move.Taken flies.letter (flying ++ []) ∷ [])
-          (heard_may (R story old) stands.reads act flies.letter flying there refl (flew (mail_world_of old) number flies) refl
-          (λ ready. hears_acts plan own (read_node tells node) disk flies.letter (idle (read_node tells node)) (late_hears plan tells own node disk flies.letter flies.letter.body of late) ready)
-          (λ one m. left_of old number flies keep one m) (λ one m. others_of old number flies keep one m)) stands.reads));
+      grown = record {
+        now = map (read_slot tells) old.slots ∷ story;
+        alike = alike_more tells story old.slots stands.alike;
+        grows = λ moment m. inr m;
+        disks = λ moment m. ⊎_elim (λ e. inr (subst (OfDisks old.slots) e (of_disks tells old.slots old.slots (disks_self old.slots)))) (λ stood. inl stood) m;
+        holds = subst (λ (x : List login.Slot). login_parts.Sound (record { slots = x; flying = flying; story = x ∷ story })) (login_same (map (read_slot tells) old.slots) own (login.slot_up (read_node tells node) disk) there)
+            (subst (λ (f : List Letter). login_parts.Sound (record {
+              slots = login.with_slot (map (read_slot tells) old.slots) own (login.slot_up (read_node tells node) disk);
+              flying = f;
+              story = login.with_slot (map (read_slot tells) old.slots) own (login.slot_up (read_node tells node) disk) ∷ story;
+            })) (append-nil flying)
+            (login_kept.all_kept (R story old) (login_moves.Move.Acted act ∷ login_moves.Move.Taken flies.letter (flying ++ []) ∷ [])
+            (heard_may (R story old) stands.reads act flies.letter flying there refl (flew (mail_world_of old) number flies) refl
+            (λ ready. hears_acts plan own (read_node tells node) disk flies.letter (idle (read_node tells node)) (late_hears plan tells own node disk flies.letter flies.letter.body of late) ready)
+            (λ one m. left_of old number flies keep one m) (λ one m. others_of old number flies keep one m)) stands.reads));
+      };
+      disks = disks_self old.slots;
     }
       where
         own : ℕ
@@ -291,11 +306,20 @@ module _ (plan : Plan) (tells : Bool) (old : World) where
         let fell = fell_sound tells story old stands.alike stands.reads flies.letter.to node disk up in
         let first : World = fallen old flies.letter.to disk in
         let slots : down.slots ≡ first.slots = ap (λ (w : World). w.slots) is in
-        let g = lost_sound tells fell.now first fell.alike fell.holds Disk flies.letter (letters_of (mail.flies_on (mail_world_of old) number flies keep))
+        let g = lost_sound tells fell.grown.now first fell.grown.alike fell.grown.holds Disk flies.letter (letters_of (mail.flies_on (mail_world_of old) number flies keep))
         (flew (mail_world_of old) number flies) (λ one m. left_of old number flies keep one m) (λ one m. others_of old number flies keep one m)
         (record down { slots = (missed tells Disk down.slots flies.letter).slots }) (ap (λ (s : List Slot). (missed tells Disk s flies.letter).slots) slots) (ap (λ (w : World). letters_of w.flying) is) new
         (subst (λ (s : List Slot). Puts tells (missed tells Disk s flies.letter).out (record down { slots = (missed tells Disk down.slots flies.letter).slots }) new) slots puts) in
-        record { now = g.now; alike = g.alike; grows = λ moment m. g.grows moment (fell.grows moment m); holds = g.holds }
+        record {
+          grown = record {
+            now = g.grown.now;
+            alike = g.grown.alike;
+            grows = λ moment m. g.grown.grows moment (fell.grown.grows moment m);
+            disks = λ moment m. ⊎_elim (λ inside. fell.grown.disks moment inside) (λ of_. inr (of_disks_on old.slots first.slots moment fell.disks of_)) (g.grown.disks moment m);
+            holds = g.grown.holds;
+          };
+          disks = disks_on old.slots first.slots new.slots fell.disks g.disks;
+        }
 
     -- a step of the whole machine
     for_seen : (one : whole.Step) → IsForWhole old one → IsForMail (mail_world_of old) (step_seen one)
@@ -304,29 +328,75 @@ module _ (plan : Plan) (tells : Bool) (old : World) where
     for_seen (ConcludeGroup n) of = tt
     for_seen (ReportTo from to) of = tt
 
-    whole_sound : (one : whole.Step) (outcome : whole.StepOutcome) (new : World) → IsForWhole old one → whole_makes.MakesStep plan tells (W old) one outcome (W new) → ReadsStay old new → Goal new
+    -- a longer story of the new world
+    record Story (new : World) : Type 0 where
+      now : List (List login.Slot)
+      alike : TellAlike tells now
+      grows : HasGrown story now
+      holds : login_parts.Sound (R now new)
+      fronts : HasFronts now new.slots
+
+    kept_story : (new : World) → Goal new → Story new
+    kept_story new k = record {
+      now = k.grown.now;
+      alike = k.grown.alike;
+      grows = k.grown.grows;
+      holds = k.grown.holds;
+      fronts = λ moment m n slot at. ⊎_elim
+          (λ was.
+          let f = stands.fronts moment was n slot at in
+          let there = k.disks.stays n f.0 f.1 in
+          (there.0, there.1, record { rest = f.2.rest; is = there.2 ∙ f.2.is }))
+          (λ of_.
+          let was = of_ n slot at in
+          let there = k.disks.stays n was.0 was.1 in
+          (there.0, there.1, record { rest = []; is = there.2 ∙ sym was.2 ∙ sym (append-nil slot.disk) }))
+          (k.grown.disks moment m);
+    }
+
+    whole_sound : (one : whole.Step) (outcome : whole.StepOutcome) (new : World) → IsForWhole old one → whole_makes.MakesStep plan tells (W old) one outcome (W new) → ReadsStay old new → Story new
     whole_sound one outcome new of made stay = record {
       now = map (read_slot tells) new.slots ∷ story;
       alike = alike_more tells story new.slots stands.alike;
       grows = λ moment m. inr m;
-      holds = besides tells story old new
-          (makes_calm (mail_world_of old) (λ n slot at. stands.whole.sound.mail.order.each n slot at) (λ letter m same. apart plan (W old) stands.whole letter m same) (mail_world_of new)
-          plan tells (step_seen one) (outcome_seen outcome) (for_seen one of) (makes_seen plan tells (W old) (W new) one outcome made))
-          stay stands.reads;
+      holds = besides tells story old new calm stay stands.reads;
+      fronts = λ moment m n slot at. ⊎_elim
+          (λ e. itself n slot (subst (λ (s : List login.Slot). login.slot_at s n ≡ Some slot) (sym e) at))
+          (λ was. grown n slot (stands.fronts moment was n slot at))
+          m;
     }
+      where
+        calm : IsCalm (mail_world_of old) (mail_world_of new)
+        calm = makes_calm (mail_world_of old) (λ n slot at. stands.whole.sound.mail.order.each n slot at) (λ letter m same. apart plan (W old) stands.whole letter m same) (mail_world_of new)
+            plan tells (step_seen one) (outcome_seen outcome) (for_seen one of) (makes_seen plan tells (W old) (W new) one outcome made)
 
-    does_step_sound : (step : Step) (said : Said) (new : World) → DoesStep plan tells old step said new → Goal new
+        itself : (n : ℕ) (slot : login.Slot) → login.slot_at (map (read_slot tells) new.slots) n ≡ Some slot → (now : Slot) × (slot_at new.slots n ≡ Some now) × IsFront slot.disk now.disk
+        itself n slot at =
+            let r = read_back tells new.slots n slot at in
+            (r.0, r.1, record { rest = []; is = ap (λ (x : login.Slot). x.disk) r.2 ∙ sym (append-nil slot.disk) })
+
+        grown : (n : ℕ) (slot : login.Slot) → (was : Slot) × (slot_at old.slots n ≡ Some was) × IsFront slot.disk was.disk → (now : Slot) × (slot_at new.slots n ≡ Some now) × IsFront slot.disk now.disk
+        grown n slot (was, here, front) =
+            let there = calm.stays n (whole_model.mail_slot (whole_slot was)) (mail_at old n was here) in
+            let now = mail_back new n there.0 there.1 in
+            let t = calm.turns n there.0 there.1 in
+            let same : t.0 ≡ whole_model.mail_slot (whole_slot was) = same_some (mail_cluster.slot_at (mail_world_of old).slots n) t.0 (whole_model.mail_slot (whole_slot was)) t.1 (mail_at old n was here) in
+            let g = grows_in t.0 there.0 t.2 in
+            let disk : now.0.disk ≡ was.disk ++ g.rest = ap (λ (x : mail_cluster.Slot). x.disk) now.2 ∙ g.is ∙ ap (λ (x : mail_cluster.Slot). x.disk ++ g.rest) same in
+            (now.0, now.1, record { rest = front.rest ++ g.rest; is = disk ∙ ap (λ (d : List Record). d ++ g.rest) front.is ∙ append_assoc slot.disk front.rest g.rest })
+
+    does_step_sound : (step : Step) (said : Said) (new : World) → DoesStep plan tells old step said new → Story new
     does_step_sound step said new (ForWhole one is answer says for_whole made stay) = whole_sound one (whole.StepOutcome.Says answer) new for_whole made stay
-    does_step_sound step said new (Begins n call is b) = begins_sound n call said new b
-    does_step_sound step said new (Asks number is stands_ a) = answers_sound number said new a
-    does_step_sound step said new (GivesUp number is stands_ g) = gives_up_sound number said new g
-    does_step_sound step said new (Posts number keep is p) = posts_sound number keep said new p
-    does_step_sound step said new (Drops number is d) = loses_sound Dropped number d.flies false new d.loses
+    does_step_sound step said new (Begins n call is b) = kept_story new (begins_sound n call said new b)
+    does_step_sound step said new (Asks number is stands_ a) = kept_story new (answers_sound number said new a)
+    does_step_sound step said new (GivesUp number is stands_ g) = kept_story new (gives_up_sound number said new g)
+    does_step_sound step said new (Posts number keep is p) = kept_story new (posts_sound number keep said new p)
+    does_step_sound step said new (Drops number is d) = kept_story new (loses_sound Dropped number d.flies false new d.loses)
 
-    makes_sound : (step : Step) (outcome : StepOutcome) (new : World) → MakesStep plan tells old step outcome new → Goal new
+    makes_sound : (step : Step) (outcome : StepOutcome) (new : World) → MakesStep plan tells old step outcome new → Story new
     makes_sound step (Says said) new m = does_step_sound step said new m.1
-    makes_sound step (Refused fault) new m = same_sound new m.1
-    makes_sound step (NoMemory None) new m = same_sound new m
+    makes_sound step (Refused fault) new m = kept_story new (same_sound new m.1)
+    makes_sound step (NoMemory None) new m = kept_story new (same_sound new m)
     makes_sound step (NoMemory (Some n)) new m = whole_sound m.one (whole.StepOutcome.NoMemory (Some n)) new m.for_whole m.runs m.stay
 
     makes_whole : (new : World) → SeesStep plan tells (W old) (W new) → whole_laws.Stands plan (W new)
@@ -336,7 +406,7 @@ module _ (plan : Plan) (tells : Bool) (old : World) where
     pub makes_all_stand : (step : Step) (outcome : StepOutcome) (new : World) → MakesStep plan tells old step outcome new → (grown : List (List login.Slot)) × Stands plan tells grown new × HasGrown story grown
     makes_all_stand step outcome new m =
         let g = makes_sound step outcome new m in
-        (g.now, record { whole = makes_whole new (makes_sees stands.whole step outcome new m); reads = g.holds; alike = g.alike }, g.grows)
+        (g.now, record { whole = makes_whole new (makes_sees stands.whole step outcome new m); reads = g.holds; alike = g.alike; fronts = g.fronts }, g.grows)
 
 pub all_stand : (plan : Plan) (tells : Bool) (old new : World) (steps : List MadeStep) (story : List (List login.Slot)) → MakesAll plan tells old steps new → Stands plan tells story old
     → (grown : List (List login.Slot)) × Stands plan tells grown new × HasGrown story grown

@@ -3,7 +3,7 @@ use Rattle.std.proofs.Common.{◌≡◌, ◌⊎◌, inl, inr, ⊎_elim, ℕ, zer
 use Rattle.std.specs.Prelude.{slice_get, slice_set}
 use Rattle.mail_model.specs.Record.{Record}
 use Rattle.object_model.specs.Lists.{Among}
-use Rattle.object_model.proofs.Lists.{same_some, get_after}
+use Rattle.object_model.proofs.Lists.{same_some, get_after, get_before}
 use Rattle.cluster_model.specs.Cluster as mail
 use Rattle.whole_model.specs.Whole as whole
 use Rattle.whole_model.proofs.Seen.{get_seen, set_seen}
@@ -106,3 +106,54 @@ alike_more tells story slots alike moment m n node disk at = ⊎_elim
     (λ is. moment_alike tells slots n node disk (subst (λ (s : List login.Slot). login.slot_at s n ≡ Some (login.slot_up node disk)) (sym is) at))
     (λ old. alike moment old n node disk at)
     m
+
+-- slots with the disks of others
+pub record SameDisks (old new : List Slot) : Type 0 where
+  pub each : (n : ℕ) (slot : Slot) → slot_at new n ≡ Some slot → (was : Slot) × (slot_at old n ≡ Some was) × (slot.disk ≡ was.disk)
+  pub stays : (n : ℕ) (was : Slot) → slot_at old n ≡ Some was → (slot : Slot) × (slot_at new n ≡ Some slot) × (slot.disk ≡ was.disk)
+
+pub disks_self : (slots : List Slot) → SameDisks slots slots
+disks_self slots = record { each = λ n slot at. (slot, at, refl); stays = λ n slot at. (slot, at, refl) }
+
+pub disks_on : (a b c : List Slot) → SameDisks a b → SameDisks b c → SameDisks a c
+disks_on a b c p q = record {
+  each = λ n slot at. let y = q.each n slot at in let x = p.each n y.0 y.1 in (x.0, x.1, y.2 ∙ x.2);
+  stays = λ n slot at. let x = p.stays n slot at in let y = q.stays n x.0 x.1 in (y.0, y.1, y.2 ∙ x.2);
+}
+
+-- a slot is written, over the same disk
+slot_after : (slots : List Slot) (n m : ℕ) (x y z : Slot) → slot_at slots n ≡ Some x → slot_at (with_slot slots n y) m ≡ Some z → ((m ≡ n) × (z ≡ y)) ⊎ (slot_at slots m ≡ Some z)
+slot_after slots zero m x y z h r = absurd (cc h)
+slot_after slots (suc n) zero x y z h r = absurd (cc r)
+slot_after slots (suc n) (suc m) x y z h r = ⊎_elim (λ p. inl (ap suc p.0, p.1)) (λ q. inr q) (get_after slots n m x y z h r)
+
+slot_before : (slots : List Slot) (n m : ℕ) (x y z : Slot) → slot_at slots n ≡ Some x → slot_at slots m ≡ Some z
+    → ((m ≡ n) × (z ≡ x) × (slot_at (with_slot slots n y) m ≡ Some y)) ⊎ (slot_at (with_slot slots n y) m ≡ Some z)
+slot_before slots zero m x y z h r = absurd (cc h)
+slot_before slots (suc n) zero x y z h r = absurd (cc r)
+slot_before slots (suc n) (suc m) x y z h r = ⊎_elim (λ p. inl (ap suc p.0, p.1, p.2)) (λ q. inr q) (get_before slots n m x y z h r)
+
+pub disks_write : (slots : List Slot) (n : ℕ) (x y : Slot) → slot_at slots n ≡ Some x → y.disk ≡ x.disk → SameDisks slots (with_slot slots n y)
+disks_write slots n x y here same = record {
+  each = λ m z at. ⊎_elim
+      (λ (is, new). (x, subst (λ k. slot_at slots k ≡ Some x) (sym is) here, ap (λ (s : Slot). s.disk) new ∙ same))
+      (λ old. (z, old, refl))
+      (slot_after slots n m x y z here at);
+  stays = λ m z at. ⊎_elim
+      (λ (is, was, there). (y, there, same ∙ ap (λ (s : Slot). s.disk) (sym was)))
+      (λ old. (z, old, refl))
+      (slot_before slots n m x y z here at);
+}
+
+-- a moment has the disks of these slots
+abbrev pub OfDisks : List Slot → List login.Slot → Type 0
+OfDisks base moment = (n : ℕ) (slot : login.Slot) → login.slot_at moment n ≡ Some slot → (was : Slot) × (slot_at base n ≡ Some was) × (slot.disk ≡ was.disk)
+
+pub of_disks : (tells : Bool) (base slots : List Slot) → SameDisks base slots → OfDisks base (map (read_slot tells) slots)
+of_disks tells base slots same n slot at =
+    let one = read_back tells slots n slot at in
+    let was = same.each n one.0 one.1 in
+    (was.0, was.1, ap (λ (s : login.Slot). s.disk) (sym one.2) ∙ was.2)
+
+pub of_disks_on : (base slots : List Slot) (moment : List login.Slot) → SameDisks base slots → OfDisks slots moment → OfDisks base moment
+of_disks_on base slots moment same of n slot at = let x = of n slot at in let was = same.each n x.0 x.1 in (was.0, was.1, x.2 ∙ was.2)

@@ -1,5 +1,5 @@
 -- What holds of worlds with calls that read, whatever steps are made.
-use Rattle.std.specs.Prelude.{◌≡◌, ℕ, Bool, List, [], ◌∷◌, map, Some}
+use Rattle.std.specs.Prelude.{◌≡◌, ℕ, Bool, List, [], ◌∷◌, ◌++◌, map, Some}
 use Rattle.mail_model.specs.Plan.{Plan}
 use Rattle.mail_model.specs.Record.{Record}
 use Rattle.object_model.specs.Lists.{Among}
@@ -13,6 +13,7 @@ use Rattle.login_model.specs.Readings.{ReadTicket}
 use Rattle.login_model.specs.Progress.{ask_read}
 use Rattle.login_model.specs.Progress.ReadAsk.{Pending}
 use Rattle.login_model.specs.Parts as login_parts
+use Rattle.joint_model.specs.Joint.{Slot, slot_at}
 use Rattle.joint_model.specs.Moves as joint
 use Rattle.joint_world.specs.World.{World, cluster_of, whole_world_of, reads_of, IsUp}
 use Rattle.joint_world.specs.Makes.{MadeStep, MakesAll, HasTicket}
@@ -22,11 +23,21 @@ use Rattle.joint_world.specs.Seen.{SeesReading}
 abbrev pub TellAlike : Bool → List (List login.Slot) → Type 0
 TellAlike tells story = (moment : List login.Slot) → Among moment story → (n : ℕ) (node : login.Node) (disk : List Record) → login.slot_at moment n ≡ Some (login.slot_up node disk) → node.tells ≡ tells
 
+-- what a disk had is the front of what it has
+pub record IsFront (was now : List Record) : Type 0 where
+  pub rest : List Record
+  pub is : now ≡ was ++ rest
+
+-- So it is of each disk of each moment: what a list or a part said of a disk is on that disk still.
+abbrev pub HasFronts : List (List login.Slot) → List Slot → Type 0
+HasFronts story slots = (moment : List login.Slot) → Among moment story → (n : ℕ) (slot : login.Slot) → login.slot_at moment n ≡ Some slot → (now : Slot) × (slot_at slots n ≡ Some now) × IsFront slot.disk now.disk
+
 -- What every step keeps: what the whole machine keeps, and what is known of calls that read with a story of the slots of all moments so far.
 pub record Stands (plan : Plan) (tells : Bool) (story : List (List login.Slot)) (w : World) : Type 0 where
   pub whole : whole.Stands plan (whole_world_of w)
   pub reads : login_parts.Sound (reads_of tells story w)
   pub alike : TellAlike tells story
+  pub fronts : HasFronts story w.slots
 
 -- a story has all moments of another
 abbrev pub HasGrown : List (List login.Slot) → List (List login.Slot) → Type 0

@@ -7,3 +7,4 @@ pub mod Makes
 pub mod Seen
 pub mod Laws
 pub mod First
+pub mod Told

@@ -1,6 +1,7 @@
 // The laws of such worlds: functions that do nothing, whose contracts hold of the definitions alone.
 ghost use Rattle.joint_world.specs.Seen.{WholeSees};
 ghost use Rattle.joint_world.specs.First.{FirstStands};
+ghost use Rattle.joint_world.specs.Told.{ListedIsKept, PartIsKept};
 ghost use Rattle.joint_world.specs.Laws.{StepsKeep, StandsIsSound, ReadingKeepsWhole, PendingHasLetter};
 
 /// Whatever steps are made and whatever comes of them, all that stands goes on standing, with a story of slots that grows.
@@ -31,4 +32,14 @@ pub fn reading_keeps_whole()
 /// A call that reads of which no letter flies is done.
 pub fn pending_has_letter()
     ensures { PendingHasLetter }
+{}
+
+/// Each message that a login was told is on the disk of the node that told it.
+pub fn listed_is_kept()
+    ensures { ListedIsKept }
+{}
+
+/// A part that a fetch was told is of octets that the disk of the node that told it has.
+pub fn part_is_kept()
+    ensures { PartIsKept }
 {}

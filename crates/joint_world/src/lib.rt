@@ -22,9 +22,11 @@
 //! - `Seen`: what the whole machine sees of calls that read.
 //! - `Laws`: what stays, whatever steps are made.
 //! - `First`: a cluster that opens.
+//! - `Told`: what calls that read were told is on disks still.
 //!
 //! The laws are functions that do nothing, and their contracts hold of the definitions alone: `steps_keep`,
-//! `first_stands`, `stands_is_sound`, `whole_sees`, `reading_keeps_whole`, `pending_has_letter`.
+//! `first_stands`, `stands_is_sound`, `whole_sees`, `reading_keeps_whole`, `pending_has_letter`,
+//! `listed_is_kept`, `part_is_kept`.
 //!
 //! STANDS ON
 //!
@@ -39,5 +41,6 @@
 mod laws;
 
 pub use laws::{
-    first_stands, pending_has_letter, reading_keeps_whole, stands_is_sound, steps_keep, whole_sees,
+    first_stands, listed_is_kept, part_is_kept, pending_has_letter, reading_keeps_whole,
+    stands_is_sound, steps_keep, whole_sees,
 };
