@@ -54,6 +54,24 @@ fn obey_order<R: Wait, D: Disk, F, C>(
     }
 }
 
+// The same, of what a line orders.
+fn obey_known<R: Wait, D: Disk, F, C>(
+    rt: &R,
+    alloc: Global,
+    board: &Board<D, F, C>,
+    pass: &mut BoardPass<D, F, C>,
+    number: u64,
+    order: &ConsoleOrder,
+    out: &mut Vec<u8>,
+) -> Result<(), AllocError>
+    requires pass { IsPassOf (view_of D.seen D.faults D.clock) board.now pass.old }
+    ensures goes { GoesStill (view_of D.seen D.faults D.clock) board.now pass.old pass.new }
+    ensures orders { OnOk result ((said : List ℕ) × (out.new.items ≡ out.old.items ++ said) × OrdersBy (view_of D.seen D.faults D.clock) board.now order.now number (board_order order.now) pass.old said pass.new) }
+{
+    let ordered = board_order(order)?;
+    obey_order(rt, alloc, board, pass, number, order, ordered, out)
+}
+
 // The same, where the line may be known.
 fn obey_heard<R: Wait, D: Disk, F, C>(
     rt: &R,
@@ -69,10 +87,7 @@ fn obey_heard<R: Wait, D: Disk, F, C>(
     ensures hears { OnOk result ((said : List ℕ) × (out.new.items ≡ out.old.items ++ said) × HearsOrder (view_of D.seen D.faults D.clock) board.now heard number pass.old said pass.new) }
 {
     match heard {
-        Some(order) => {
-            let ordered = board_order(&order)?;
-            obey_order(rt, alloc, board, pass, number, &order, ordered, out)
-        }
+        Some(order) => obey_known(rt, alloc, board, pass, number, &order, out),
         None => say_refused(alloc, number, b"BadLine", out),
     }
 }

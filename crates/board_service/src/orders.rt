@@ -1,11 +1,14 @@
 //! What the lines of the console order.
 ghost use Rattle.std.specs.Prelude.{◌≡◌, codes, option_and_then, IfOk};
+ghost use Rattle.std.specs.Option.{option_map};
+ghost use Rattle.mail_model.specs.Plan.{is_user};
 ghost use Rattle.mail_model.specs.Tape.{strip};
+ghost use Rattle.shard_board.specs.declared.order.Order.TheVariants as board;
 ghost use Rattle.board_service.specs.ConsoleLines.{numbered, bare, maps_line, order_in, is_known, order_heard, node_of, board_order};
 ghost use Rattle.board_service.specs.declared.orders.ConsoleOrder.TheVariants.{Crash, Start, Lose, Group, Settle, Sum};
 
 use line_words::number;
-use mail_base::{Name, NodeNo, Plan};
+use mail_base::{Name, NodeNo, Plan, spells_name};
 use shard_board::Order;
 use std::alloc::{AllocError, Global};
 use tape_lines::{strip, without_cr};
@@ -121,12 +124,19 @@ fn order_in(alloc: Global, line: &[u8]) -> Result<Option<ConsoleOrder>, AllocErr
     asks_maps(alloc, line)
 }
 
+// Whether the plan has a user of this name.
+fn has_user(plan: &Plan, user: &Name) -> bool
+    ensures { result ≡ is_user plan.now user.now }
+{
+    spells_name(user.octets()) && plan.users.has(user)
+}
+
 // Whether the user whose map is asked for is one of the plan.
 fn is_known(plan: &Plan, order: &ConsoleOrder) -> bool
     ensures { result ≡ is_known plan.now order.now }
 {
     match order {
-        ConsoleOrder::Maps(user) => plan.users.has(user),
+        ConsoleOrder::Maps(user) => has_user(plan, user),
         ConsoleOrder::Crash(_)
         | ConsoleOrder::Start(_)
         | ConsoleOrder::Lose(_)
@@ -168,6 +178,30 @@ fn node_of(number: u64) -> Option<NodeNo>
     NodeNo::new(number as u8)
 }
 
+fn crash_at(number: u64) -> Option<Order>
+    ensures { result ≡ option_map board.Crash (node_of number) }
+{
+    Some(Order::Crash(node_of(number)?))
+}
+
+fn start_at(number: u64) -> Option<Order>
+    ensures { result ≡ option_map board.Start (node_of number) }
+{
+    Some(Order::Start(node_of(number)?))
+}
+
+fn lose_at(number: u64) -> Option<Order>
+    ensures { result ≡ option_map board.Lose (node_of number) }
+{
+    Some(Order::Lose(node_of(number)?))
+}
+
+fn regroup_at(number: u64) -> Option<Order>
+    ensures { result ≡ option_map board.Regroup (node_of number) }
+{
+    Some(Order::Regroup(node_of(number)?))
+}
+
 /// What a board is to do; nothing where no plan has the node.
 ///
 /// # Errors
@@ -177,10 +211,10 @@ pub(crate) fn board_order(order: &ConsoleOrder) -> Result<Option<Order>, AllocEr
     ensures { IfOk result (λ ordered. ordered ≡ board_order order.now) }
 {
     match order {
-        ConsoleOrder::Crash(number) => Ok(node_of(*number).map(|node| Order::Crash(node))),
-        ConsoleOrder::Start(number) => Ok(node_of(*number).map(|node| Order::Start(node))),
-        ConsoleOrder::Lose(number) => Ok(node_of(*number).map(|node| Order::Lose(node))),
-        ConsoleOrder::Group(number) => Ok(node_of(*number).map(|node| Order::Regroup(node))),
+        ConsoleOrder::Crash(number) => Ok(crash_at(*number)),
+        ConsoleOrder::Start(number) => Ok(start_at(*number)),
+        ConsoleOrder::Lose(number) => Ok(lose_at(*number)),
+        ConsoleOrder::Group(number) => Ok(regroup_at(*number)),
         ConsoleOrder::Settle => Ok(Some(Order::Settle)),
         ConsoleOrder::Maps(user) => Ok(Some(Order::Maps(user.copy()?))),
         ConsoleOrder::Sum => Ok(Some(Order::Sum)),

@@ -9,7 +9,7 @@
 //!
 //! | File | What is tried |
 //! |---|---|
-//! | `tests/orders.rt` | a table of calls in the name of two passes: calls of sessions, letters, what an operator orders, entries of the book; and a cluster of four nodes, of which two are lost |
+//! | `tests/orders.rt` | a table of calls in the name of two passes: calls of sessions, letters, what an operator orders, entries of the book; reports and settles; and a cluster of four nodes, of which two are lost |
 //! | `tests/letters.rt` | a table of fates: letters that are dropped, and letters that are handed over twice; and what a message comes to |
 //! | `tests/joins.rt` | a pass that has made no call takes another in, and reads the entry that this one made; a call is given up; what both counted |
 //! | `tests/work.rt` | four threads, each with a pass and 334 rounds of a message, a deletion and an order; then the book, the store and what the passes counted are held against what was told in the name of each |

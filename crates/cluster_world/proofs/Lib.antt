@@ -41,6 +41,7 @@ pub mod Noted
 pub mod Numbers
 pub mod Ordered
 pub mod Owed
+pub mod OwedRows
 pub mod PostEnds
 pub mod Posted
 pub mod Posting

@@ -1,5 +1,5 @@
 -- A run whose last deed was a settle left a world at rest.
-use Rattle.std.proofs.Common.{◌≡◌, ℕ, List, [], ◌∷◌, ◌++◌, Option, Some, Result, Ok, Err, refl, sym, ap, ◌∙◌, subst, append-nil, append_assoc}
+use Rattle.std.proofs.Common.{◌≡◌, ℕ, List, [], ◌∷◌, ◌++◌, Result, Ok, Err, refl, sym, ap, ◌∙◌, subst, append-nil}
 use Rattle.std.specs.Prelude.{All}
 use Rattle.std.proofs.lemmas.List.Elements.{All-head, All-tail}
 use Rattle.mail_model.specs.Plan.{Plan}
@@ -9,12 +9,10 @@ use Rattle.session_model.specs.Acts.Act.{Does, Makes as MakesAct}
 use Rattle.session_model.specs.Acts.Deed.{Hears}
 use Rattle.session_model.specs.Events.{ClusterEvent}
 use Rattle.session_model.specs.Events.ClusterEvent.{HasSettled, WasAbsent, HasFaulted}
-use Rattle.session_model.specs.Lives.{life_after}
 use Rattle.session_model.specs.Logs.{Asked}
 use Rattle.session_model.specs.Run.{Made, Stop}
 use Rattle.session_model.specs.Run.Stop.{BehindLine, OutOfMemory}
 use Rattle.node_store.specs.Disks.{View}
-use Rattle.cluster_world.specs.Lives.{nodes_up}
 use Rattle.cluster_world.specs.Made.{StepMade}
 use Rattle.cluster_world.specs.Outcomes.{Outcome, Awaited, Came, Makes, made_of}
 use Rattle.cluster_world.specs.Outcomes.Outcome.{Moved, Settling, Mapped}
@@ -78,20 +76,20 @@ module _ {D : Type 0} (on : View D) where
   map_same name up event outcome awaited left old mid (OfMap user told maps is tells) came =
       let c : Came on (Mapped user told) awaited old left mid = subst (λ (o : Outcome). Came on o awaited old left mid) is came in c.2
 
+  -- such an act made one outcome, and the world stayed as it was
+  idle_same : (act : Act) (plan : Plan) (been : List Act) (before own : List Outcome) → IsIdleAct act → Led plan been before act own
+      → (outcome : Outcome) × (own ≡ outcome ∷ []) × ((awaited left : List Awaited) (old mid : World D) → Came on outcome awaited old left mid → mid ≡ old)
+  idle_same (MakesAct order.Sum event) plan been before own is (outcome, own_is, tells) = (outcome, own_is, λ awaited left old mid came. sum_same _ event outcome awaited left old mid tells came)
+  idle_same (MakesAct (order.Maps user) event) plan been before own is (outcome, own_is, tells) = (outcome, own_is, λ awaited left old mid came. map_same user _ event outcome awaited left old mid tells came)
+  idle_same other plan been before own is led = absurd is
+
   idle_stays : (behind : List Act) (plan : Plan) (been : List Act) (before outcomes : List Outcome) (awaited left : List Awaited) (old new : World D) → All IsIdleAct behind → AreLed plan been before behind outcomes
       → Makes on outcomes awaited old left new → new ≡ old
   idle_stays [] plan been before outcomes awaited left old new idle none makes = (subst (λ (os : List Outcome). Makes on os awaited old left new) none makes).1
-  idle_stays (act ∷ behind) plan been before outcomes awaited left old new idle (own, others, are, led, more) makes = by act (All-head IsIdleAct act behind idle) led
-    where
-      goes : (outcome : Outcome) → own ≡ outcome ∷ [] → ((between : List Awaited) (mid : World D) → Came on outcome awaited old between mid → mid ≡ old) → new ≡ old
-      goes outcome own_is same =
-          let one = one_came own others outcomes outcome awaited left old new are own_is makes in
-          idle_stays behind plan (been ++ act ∷ []) (before ++ own) others one.between left one.mid new (All-tail IsIdleAct act behind idle) more one.rest ∙ same one.between one.mid one.came
-
-      by : (a : Act) → IsIdleAct a → Led plan been before a own → new ≡ old
-      by (MakesAct order.Sum event) is (outcome, own_is, tells) = goes outcome own_is (λ between mid came. sum_same _ event outcome awaited between old mid tells came)
-      by (MakesAct (order.Maps user) event) is (outcome, own_is, tells) = goes outcome own_is (λ between mid came. map_same user _ event outcome awaited between old mid tells came)
-      by other is led = absurd is
+  idle_stays (act ∷ behind) plan been before outcomes awaited left old new idle (own, others, are, led, more) makes =
+      let same = idle_same act plan been before own (All-head IsIdleAct act behind idle) led in
+      let one = one_came own others outcomes same.0 awaited left old new are same.1 makes in
+      idle_stays behind plan (been ++ act ∷ []) (before ++ own) others one.between left one.mid new (All-tail IsIdleAct act behind idle) more one.rest ∙ same.2 awaited one.between old one.mid one.came
 
   -- a settle that was answered so
   settled_rests : (result : Result Settle StepFault) (steps : List StepMade) (awaited left : List Awaited) (old mid : World D) → TellsSettle result HasSettled → Came on (Settling result steps) awaited old left mid → IsAtRest (state_of mid)

@@ -1,5 +1,5 @@
 -- The clock of a world shows the seconds of the last `tick` line.
-use Rattle.std.proofs.Common.{◌≡◌, ◌⊎◌, inl, inr, ⊎_elim, ℕ, List, [], ◌∷◌, ◌++◌, flat_map, Option, Some, None, Result, Ok, Err, refl, sym, ap, ◌∙◌, subst}
+use Rattle.std.proofs.Common.{◌≡◌, inl, inr, ⊎_elim, ℕ, List, [], ◌∷◌, ◌++◌, flat_map, Option, Some, None, Result, Ok, Err, refl, sym, ap, ◌∙◌, subst}
 use Rattle.std.specs.Prelude.{All}
 use Rattle.std.proofs.lemmas.List.Elements.{All-head, All-tail}
 use Rattle.mail_model.specs.Plan.{Plan}
@@ -24,7 +24,7 @@ use Rattle.cluster_world.specs.Turns.{seconds_after_step}
 use Rattle.cluster_world.specs.Worlds.{state_of, plan_of}
 use Rattle.cluster_world.specs.Steps.{IsStep}
 use Rattle.cluster_world.specs.Opens.{IsAtBeginning}
-use Rattle.cluster_world.specs.Made.{StepMade, MakesSteps, IsPost, IsOfRegroup, AreOfRegroup, MakesOne}
+use Rattle.cluster_world.specs.Made.{StepMade, MakesSteps, IsPost, IsOfRegroup, AreOfRegroup}
 use Rattle.cluster_world.specs.Outcomes.{Outcome, Awaited, MakesOrder, Came, Makes as MakesAll}
 use Rattle.cluster_world.specs.Outcomes.Outcome.{Began, Fell, Answers, StillPending, GaveUp, Abandoned, Left, Moved, Settling, Mapped}
 use Rattle.cluster_world.specs.declared.world.World.{World}

@@ -277,6 +277,14 @@ cut_line missing cut part all = ⊎_elim (λ (none : cut ≡ []). subst HasNoLf 
     (All-head HasNoLf (entry_line some.entry) (map entry_line some.more) (subst (λ (es : List Entry). All HasNoLf (map entry_line es)) some.are all)) some.some some.whole)
     part
 
+-- behind a line no step more was made
+behind_none : (plan : Plan) (been : List Act) (old : List Session) (left : List (List ℕ)) (acts : List (List Act)) (entries : List Entry) (extra : List Made) (new : List Session)
+    → IsLeftOff plan been BehindLine old left acts entries extra new → extra ≡ []
+behind_none plan been old [] [] entries extra new off = off.1
+behind_none plan been old (line ∷ []) ([] ∷ []) entries extra new off = absurd off.0.in_vain
+behind_none plan been old (line ∷ []) ((act ∷ acts) ∷ []) entries extra new off = off.2
+behind_none plan been old left acts entries extra new off = absurd off
+
 module _ {D : Type 0} (on : View D) (start : World D) (left0 left1 left2 held0 held1 held2 : Option (List ℕ)) (old : Cluster D) (count room1 room2 from : ℕ) (world : World D) (answer : Drove)
     (p : Progress on start left0 left1 held0 held1 old count room1) (names : NamesLine answer (from + count + 1))
     (begins : IsAtBeginning on (plan_of start) start) (owing : WorldOwes on) where
@@ -365,7 +373,7 @@ module _ {D : Type 0} (on : View D) (start : World D) (left0 left1 left2 held0 h
       sound = whole_in on start world begins stop p.handled midst p.acts h.behind _ entries sessions is_driven (p.point.outcomes ++ new) h.since.0 h.since.1.made refl nodes_are;
       one_map = one_map_in on start world begins stop p.handled midst p.acts h.behind _ entries sessions is_driven (p.point.outcomes ++ new) h.since.0 h.since.1.made refl nodes_are;
       maps_right = λ is. maps_right_in on start world begins stop p.handled midst p.acts h.behind _ entries sessions is_driven (p.point.outcomes ++ new) h.since.0 h.since.1.made refl nodes_are h.lacking h.extra led is
-          (behind_none (plan_of start) _ _ midst h.behind h.tail h.extra sessions (subst (λ (s : Stop). IsLeftOff (plan_of start) _ s _ midst h.behind h.tail h.extra sessions) is h.off));
+          (behind_none (plan_of start) p.point.been p.point.sessions midst h.behind h.tail h.extra sessions (subst (λ (s : Stop). IsLeftOff (plan_of start) p.point.been s p.point.sessions midst h.behind h.tail h.extra sessions) is h.off));
       named = names_in on start world begins stop p.handled midst p.acts h.behind _ entries sessions is_driven (p.point.outcomes ++ new) h.since.0 h.since.1.made refl nodes_are h.lacking h.extra led;
       quiet = stays_whole on (p.point.outcomes ++ new) h.since.0 start world;
       kept = kept_in on start world begins stop p.handled midst p.acts h.behind _ entries sessions is_driven (p.point.outcomes ++ new) h.since.0 h.since.1.made refl nodes_are
@@ -408,14 +416,6 @@ none_left : (plan : Plan) (been : List Act) (stop : Stop) (old : List Session) (
 none_left plan been stop old [] [] entries extra new none off = off.2
 none_left plan been stop old [] (a ∷ acts) entries extra new none off = absurd off
 none_left plan been stop old (line ∷ left) acts entries extra new none off = absurd (let never : line ∷ left ≡ [] = none in cc)
-
--- behind a line no step more was made
-behind_none : (plan : Plan) (been : List Act) (old : List Session) (left : List (List ℕ)) (acts : List (List Act)) (entries : List Entry) (extra : List Made) (new : List Session)
-    → IsLeftOff plan been BehindLine old left acts entries extra new → extra ≡ []
-behind_none plan been old [] [] entries extra new off = off.1
-behind_none plan been old (line ∷ []) ([] ∷ []) entries extra new off = absurd off.0.in_vain
-behind_none plan been old (line ∷ []) ((act ∷ acts) ∷ []) entries extra new off = off.2
-behind_none plan been old left acts entries extra new off = absurd off
 
 in_midst : (line : List ℕ) (midst : List (List ℕ)) → midst ≡ line ∷ [] → ended line ≡ flat_map ended midst ++ []
 in_midst line midst is = sym (append-nil (ended line)) ∙ sym (append-nil (ended line ++ [])) ∙ ap (λ (ls : List (List ℕ)). flat_map ended ls ++ []) (sym is)

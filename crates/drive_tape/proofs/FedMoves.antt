@@ -7,7 +7,6 @@ use Rattle.std.proofs.lemmas.List.{append-nil}
 use Rattle.std.proofs.lemmas.Grind.{flat_map-append}
 use Rattle.object_model.specs.Lists.{Among}
 use Rattle.mail_model.specs.Plan.{Plan, is_user}
-use Rattle.session_model.specs.Sums.{sum_of}
 use Rattle.mail_model.specs.Site.{TapeFault as SiteFault}
 use Rattle.mail_model.specs.Site.TapeFault.{BadLine, NoSuchNode}
 use Rattle.mail_model.specs.Tape as tape
@@ -29,7 +28,7 @@ use Rattle.node_store.specs.Disks.{View}
 use Rattle.cluster_world.specs.Lives.{nodes_up}
 use Rattle.cluster_world.specs.Outcomes.{Outcome, made_of, left_after}
 use Rattle.cluster_world.specs.declared.fault.StepFault.{StepFault}
-use Rattle.cluster_world.specs.Worlds.{plan_of, life_of, book_of}
+use Rattle.cluster_world.specs.Worlds.{plan_of, life_of}
 use Rattle.cluster_world.specs.declared.world.World.{World}
 use Rattle.drive_tape.specs.declared.cluster.Cluster.{Cluster}
 use Rattle.drive_tape.specs.declared.event.ClusterEvent.{ClusterEvent as OwnEvent}

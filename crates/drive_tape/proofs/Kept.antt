@@ -40,7 +40,7 @@ use Rattle.cluster_world.specs.Wholes.{HasOneMap}
 use Rattle.cluster_world.specs.Worlds.{state_of, plan_of, disks_of, book_of, disks_tell}
 use Rattle.cluster_world.specs.Opens.{IsAtBeginning}
 use Rattle.cluster_world.specs.Owing.{AreBlind, IsOfBlind, AllBlind, AreKnown, AreOfSessions, WorldOwes}
-use Rattle.cluster_world.specs.Made.{StepMade, IsPost, IsOfRegroup, AreOfRegroup}
+use Rattle.cluster_world.specs.Made.{StepMade, IsPost, AreOfRegroup}
 use Rattle.cluster_world.specs.Outcomes.{Outcome, Awaited, Came, Makes, made_of, asked_by_outcome, answered_by_outcome}
 use Rattle.cluster_world.proofs.Ordered.{AreStepsOf, IsPushOf, IsReportOf, order_are}
 use Rattle.cluster_world.specs.Outcomes.Outcome.{Began, Refused, Fell, Broke, Answers, StillPending, Unanswered, GaveUp, Abandoned, KeptUp, Left, Moved, Settling, Mapped}
@@ -52,7 +52,7 @@ use Rattle.cluster_model.specs.Progress.Ask.{Pending}
 use Rattle.cluster_world.proofs.Lasting.{pending_has_letter}
 use Rattle.cluster_world.proofs.Owed.{none_pending}
 use Rattle.cluster_world.proofs.Wholes.{world_is_whole, one_map_per_epoch}
-use Rattle.cluster_world.proofs.SettledWhole.{settled_maps_are_right}
+use Rattle.cluster_world.proofs.Righted.{settled_maps_are_right}
 use Rattle.cluster_world.specs.Rests.{HasRightMaps}
 use Rattle.cluster_world.specs.Settling.{IsAtRest, IsOfSettle, AreOfSettle}
 use Rattle.cluster_world.specs.Settling.IsOfSettle.{Posts, Pushes, Reports}

@@ -145,11 +145,11 @@ pub well_and_one : (front : List StepMade) (one : StepMade) → WentWell front �
 well_and_one [] one well last = (last, tt)
 well_and_one (first ∷ more) one well last = (well.0, well_and_one more one well.1 last)
 
-sent_and_one : (front : List StepMade) (one : StepMade) → sent_in (front ++ one ∷ []) ≡ sent_in front + sent_of one.result
+pub sent_and_one : (front : List StepMade) (one : StepMade) → sent_in (front ++ one ∷ []) ≡ sent_in front + sent_of one.result
 sent_and_one [] one = omega arith
 sent_and_one (first ∷ more) one = let rest : sent_in (more ++ one ∷ []) ≡ sent_in more + sent_of one.result = sent_and_one more one in omega (arith, rest)
 
-capped : (a b m : ℕ) → min (min a m + b) m ≡ min (a + b) m
+pub capped : (a b m : ℕ) → min (min a m + b) m ≡ min (a + b) m
 capped a b m = ⊎_elim
     (λ (below : a < m). ap (λ (n : ℕ). min (n + b) m) (min-eq_left (let e : a ≤ m = omega (arith, below) in e)))
     (λ (over : m ≤ a). ap (λ (n : ℕ). min (n + b) m) (min-eq_right over) ∙ min-eq_right (let e : m ≤ m + b = omega arith in e) ∙ sym (min-eq_right (let e : m ≤ a + b = omega (arith, over) in e)))

@@ -1,17 +1,17 @@
 -- A node reports to members of its epoch, one after another.
-use Rattle.std.specs.Prelude.{min, MatchBool, if◌then◌else◌}
-use Rattle.std.proofs.Common.{◌≡◌, ◌≢◌, ℕ, zero, suc, ◌+◌, ◌-◌, ◌≤◌, Bool, true, false, not, ◌&&◌, nat_eq, List, [], ◌∷◌, ◌++◌, Option, Some, None, Result, Ok, Err, refl, sym, ap, ◌∙◌, subst, arith, append_assoc, append-nil}
+use Rattle.std.specs.Prelude.{min, MatchBool, IfOk, if◌then◌else◌}
+use Rattle.std.proofs.Common.{◌≡◌, ℕ, zero, suc, ◌+◌, ◌-◌, ◌≤◌, Bool, true, false, not, ◌&&◌, nat_eq, List, [], ◌∷◌, ◌++◌, Some, None, Result, Ok, Err, refl, sym, ap, ◌∙◌, subst, arith, append-nil}
 use Rattle.object_model.specs.Sets.{has}
 use Rattle.mail_model.specs.Tape.{ClusterOrder as order}
 use Rattle.session_model.specs.Acts.{Act}
-use Rattle.session_model.specs.Events.{NodeLife, IsUp}
+use Rattle.session_model.specs.Events.{IsUp}
 use Rattle.session_model.specs.Lives.{life_after}
 use Rattle.session_model.specs.Run.{is_no_node, fault_if}
 use Rattle.mail_model.specs.Site.TapeFault.{NoSuchNode}
 use Rattle.node_store.specs.Disks.{View}
-use Rattle.cluster_world.specs.Made.{StepMade, MakesSteps, StepsTo, ReportsAll, others_in, has_failed}
+use Rattle.cluster_world.specs.Made.{StepMade, StepsTo, others_in, has_failed}
 use Rattle.cluster_world.specs.Outcomes.{Outcome, Awaited}
-use Rattle.cluster_world.specs.Steps.{IsStep}
+use Rattle.cluster_world.specs.Steps.{IsStep, SaysSo}
 use Rattle.cluster_world.specs.Telling.{members_seen}
 use Rattle.cluster_world.specs.Worlds.{state_of, plan_of, node_in}
 use Rattle.cluster_world.proofs.Ordered.{reports_none}
@@ -23,11 +23,11 @@ use Rattle.cluster_world.specs.declared.step.Step.TheVariants as step
 use Rattle.cluster_world.specs.declared.world.World.{World}
 use Rattle.drive_tape.specs.declared.drove.Stop.{Stop}
 use Rattle.drive_tape.specs.declared.event.ClusterEvent.TheVariants.{HasSent}
-use Rattle.drive_tape.specs.Denials.{stop_by}
 use Rattle.drive_tape.specs.Led.{WentWell, sent_in}
-use Rattle.drive_tape.specs.Moved.{OrderIsFit, Happened, MovedSo, ReportedSo, HasReported, IsRefusedReport, ReportsSo}
+use Rattle.drive_tape.specs.Moved.{OrderIsFit, Happened, MovedSo, IsSaidOfReport, SendsTo, ReportedSo, HasReported, IsRefusedReport}
 use Rattle.drive_tape.proofs.Posting.{well_and_one, sent_and_one, capped}
 use Rattle.drive_tape.proofs.Stepping.{IsCalm, AreCalm, steps_more, happens_calm, denied_after}
+use Rattle.drive_tape.proofs.Settles.{calm_as, report_leaves}
 
 -- such steps for more nodes
 to_more : (of : ℕ → Step) (others more : List ℕ) (steps rest : List StepMade) → StepsTo of others steps → WentWell steps → StepsTo of more rest → StepsTo of (others ++ more) (steps ++ rest)
@@ -53,7 +53,20 @@ to_failed of (to ∷ others) more (first ∷ front) one well failed (is, ends) =
 next_of : (from members k : ℕ) (is : Bool) → (has members (suc k) && not (nat_eq from (suc k))) ≡ is → others_in from members (suc k) ≡ others_in from members k ++ (if is then suc k ∷ [] else [])
 next_of from members k is same = ap (λ (b : Bool). others_in from members k ++ (if b then suc k ∷ [] else [])) same
 
+-- what may be said of a report
+pub said_of_report : (from to : ℕ) (result : Result Said StepFault) → IfOk result (SaysSo (step.Report from to)) → IsSaidOfReport result
+said_of_report from to (Ok (said.Sent letters)) so = tt
+said_of_report from to (Err why) so = tt
+said_of_report from to (Ok what) so = absurd so
+
 module _ {D : Type 0} (on : View D) (from : ℕ) where
+  pub reported_so : (to : ℕ) (result : Result Said StepFault) (handed : Result ℕ Stop) (old new : World D) → SendsTo result handed → IsStep on result (step.Report from to) old new → ReportedSo on from to handed old new
+  reported_so to (Ok (said.Sent letters)) (Ok sent) old new so is = subst (λ (n : ℕ). IsStep on (Ok (said.Sent n)) (step.Report from to) old new) (sym so) is
+  reported_so to (Ok (said.Sent letters)) (Err stop) old new so is = absurd so
+  reported_so to (Ok what) handed old new so is = absurd so
+  reported_so to (Err why) (Ok sent) old new so is = absurd so
+  reported_so to (Err why) (Err stop) old new so is = (why, so, is)
+
   pub reported_none : (members nodes : ℕ) (old : World D) → nodes ≡ 0 → HasReported on from (others_in from members nodes) 0 old old
   reported_none members nodes old none =
       subst (λ (n : ℕ). HasReported on from (others_in from members n) 0 old old) (sym none) (record { steps = []; made = refl; to = refl; well = tt; count = refl })
@@ -96,7 +109,7 @@ module _ {D : Type 0} (on : View D) (from : ℕ) where
         before = was.before;
         well = was.well;
         last = was.last;
-        each = to_failed (step.Report from) (others_in from members k) (if has members (suc k) && not (nat_eq from (suc k)) then suc k ∷ [] else []) was.front _ was.well refl was.each;
+        each = to_failed (step.Report from) (others_in from members k) (if has members (suc k) && not (nat_eq from (suc k)) then suc k ∷ [] else []) was.front (record { step = step.Report from was.to; result = Err was.why }) was.well refl was.each;
         stops = was.stops;
       }
 
@@ -122,15 +135,7 @@ module _ {D : Type 0} (on : View D) (from : ℕ) where
 
   -- steps that are reports change no node where none failed
   calm_one : (to : ℕ) (one : StepMade) → one.step ≡ step.Report from to → has_failed one.result ≡ false → IsCalm one
-  calm_one to one is well = by one.result refl well
-    where
-      calm_by : (r : Result Said StepFault) → one.result ≡ r → IsCalm (record { step = step.Report from to; result = r }) → IsCalm one
-      calm_by r same calm = subst (λ (s : Step). IsCalm (record { step = s; result = one.result })) (sym is) (subst (λ (x : Result Said StepFault). IsCalm (record { step = step.Report from to; result = x })) (sym same) calm)
-
-      by : (r : Result Said StepFault) → one.result ≡ r → has_failed r ≡ false → IsCalm one
-      by (Ok (said.Faulted n)) same failed = absurd (let never : true ≡ false = failed in cc)
-      by (Err why) same failed = absurd (let never : true ≡ false = failed in cc)
-      by (Ok what) same failed = calm_by (Ok what) same (record { falls = refl; lives = λ n was. refl })
+  calm_one to one is well = calm_as one (step.Report from to) is (report_leaves from to one.result well)
 
   front_calm : (others : List ℕ) (front more : List StepMade) → StepsTo (step.Report from) others (front ++ more) → WentWell front → AreCalm front
   front_calm others [] more each well = tt

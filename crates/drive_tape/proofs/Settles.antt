@@ -1,23 +1,21 @@
 -- What a settle, a report and a map make of a world.
-use Rattle.std.specs.Prelude.{min, MatchBool, IfOk}
-use Rattle.std.proofs.Common.{◌≡◌, ◌≢◌, ◌⊎◌, ⊎_elim, inl, inr, ℕ, ◌+◌, Bool, true, false, List, [], ◌∷◌, ◌++◌, Option, None, Result, Ok, Err, refl, sym, ap, ◌∙◌, subst, arith, append_assoc, append-nil}
+use Rattle.std.proofs.Common.{◌≡◌, ⊎_elim, ℕ, true, false, List, [], ◌∷◌, ◌++◌, Option, None, Result, Ok, Err, refl, sym, ap, ◌∙◌, subst}
 use Rattle.mail_model.specs.Tape.{ClusterOrder as order}
-use Rattle.session_model.specs.Sums.{sum_of}
 use Rattle.session_model.specs.Acts.{Act}
 use Rattle.session_model.specs.Events.{NodeLife, MayFault}
 use Rattle.session_model.specs.Lives.{life_after}
 use Rattle.node_store.specs.Disks.{View}
 use Rattle.cluster_world.specs.Flows.{AllDelivered}
-use Rattle.cluster_world.specs.Made.{StepMade, MakesSteps, IsPost, StepsTo, has_failed}
+use Rattle.cluster_world.specs.Made.{StepMade, MakesSteps, has_failed}
 use Rattle.cluster_world.specs.Outcomes.{Outcome, Awaited, Came, fallen_in, left_after_all}
 use Rattle.cluster_world.specs.Outcomes.Outcome.{Settling, Mapped}
 use Rattle.cluster_world.specs.Regroups.{AllWentOn, EndsBy}
-use Rattle.cluster_world.specs.Settling.{IsOfSettle, AreOfSettle, MakesSettle, SettlesSo, Goes, Swept, IsRefusedBy, SweepsInVain, settle_refusal, pairs_in, maps_in}
+use Rattle.cluster_world.specs.Settling.{IsOfSettle, AreOfSettle, MakesSettle, Goes, Swept, IsRefusedBy, SweepsInVain, settle_refusal, pairs_in, maps_in}
 use Rattle.cluster_world.specs.Settling.IsOfSettle.{Posts, Pushes, Reports}
 use Rattle.cluster_world.specs.Settling.Swept.{NoMore, OneMore}
-use Rattle.cluster_world.specs.Steps.{IsStep, FallsSo, WasToWork}
+use Rattle.cluster_world.specs.Steps.{FallsSo, WasToWork}
 use Rattle.cluster_world.specs.Turns.{life_after_step}
-use Rattle.cluster_world.specs.Worlds.{state_of, plan_of, life_of, life_in, book_of}
+use Rattle.cluster_world.specs.Worlds.{state_of, plan_of, life_of, life_in}
 use Rattle.cluster_world.proofs.Settles.{each_went}
 use Rattle.cluster_world.specs.declared.fault.StepFault.{StepFault}
 use Rattle.cluster_world.specs.declared.fault.StepFault.TheVariants as fault
@@ -44,10 +42,10 @@ use Rattle.drive_tape.proofs.Chains.{went_more}
 use Rattle.drive_tape.proofs.WholeTexts.{settle_ended}
 
 -- such a step leaves each node as it is
-abbrev LeavesNodes : Step → Result Said StepFault → Type 0
+abbrev pub LeavesNodes : Step → Result Said StepFault → Type 0
 LeavesNodes one result = (fallen_in one result ≡ None) × ((n : ℕ) (was : NodeLife) → life_after_step result one n was ≡ was)
 
-calm_as : (one : StepMade) (s : Step) → one.step ≡ s → LeavesNodes s one.result → IsCalm one
+pub calm_as : (one : StepMade) (s : Step) → one.step ≡ s → LeavesNodes s one.result → IsCalm one
 calm_as one s is leaves = record {
   falls = ap (λ (x : Step). fallen_in x one.result) is ∙ leaves.0;
   lives = λ n was. ap (λ (x : Step). life_after_step one.result x n was) is ∙ leaves.1 n was;
@@ -63,7 +61,7 @@ push_leaves from to (Ok (said.Faulted n)) well = absurd (let never : true ≡ fa
 push_leaves from to (Ok what) well = (refl, λ n was. refl)
 push_leaves from to (Err why) well = absurd (let never : true ≡ false = well in cc)
 
-report_leaves : (from to : ℕ) (result : Result Said StepFault) → has_failed result ≡ false → LeavesNodes (step.Report from to) result
+pub report_leaves : (from to : ℕ) (result : Result Said StepFault) → has_failed result ≡ false → LeavesNodes (step.Report from to) result
 report_leaves from to (Ok (said.Faulted n)) well = absurd (let never : true ≡ false = well in cc)
 report_leaves from to (Ok what) well = (refl, λ n was. refl)
 report_leaves from to (Err why) well = absurd (let never : true ≡ false = well in cc)

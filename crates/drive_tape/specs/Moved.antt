@@ -79,6 +79,20 @@ PostsTo letter (Ok said) (Err stop) = ⊤
 PostsTo letter (Err why) (Ok happened) = ⊥
 PostsTo letter (Err why) (Err stop) = stop ≡ stop_by why
 
+-- a report says how many letters it sent, or was refused
+abbrev pub IsSaidOfReport : Result Said StepFault → Type 0
+IsSaidOfReport (Ok (said.Sent letters)) = ⊤
+IsSaidOfReport (Ok what) = ⊥
+IsSaidOfReport (Err why) = ⊤
+
+-- what is said of a report
+abbrev pub SendsTo : Result Said StepFault → Result ℕ Stop → Type 0
+SendsTo (Ok (said.Sent letters)) (Ok sent) = sent ≡ letters
+SendsTo (Ok (said.Sent letters)) (Err stop) = ⊥
+SendsTo (Ok what) handed = ⊥
+SendsTo (Err why) (Ok sent) = ⊥
+SendsTo (Err why) (Err stop) = stop ≡ stop_by why
+
 -- a node reported to another
 abbrev pub ReportedSo : {D : Type 0} → View D → ℕ → ℕ → Result ℕ Stop → World D → World D → Type 0
 ReportedSo on from to (Ok letters) old new = IsStep on (Ok (said.Sent letters)) (step.Report from to) old new

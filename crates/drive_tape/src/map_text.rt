@@ -1,8 +1,7 @@
 // The words of the transcript for a user's map.
-ghost use Rattle.std.specs.Prelude.{◌≡◌, ◌++◌, codes, IfOk, OnOk};
-ghost use Rattle.std.specs.Fmt.{decimal};
+ghost use Rattle.std.specs.Prelude.{◌≡◌, ◌++◌, Some, None, codes, IfOk};
 ghost use Rattle.object_model.specs.Sets.{nodes_in};
-ghost use Rattle.session_model.specs.Events.{node_words, maps_text};
+ghost use Rattle.session_model.specs.Events.{maps_text};
 ghost use Rattle.cluster_world.specs.Outcomes.{map_seen};
 
 use crate::epoch_text::{push_nodes, push_number};
@@ -18,18 +17,29 @@ fn map_of(alloc: Global, user: &Name) -> Result<Vec<u8>, AllocError>
     Ok(text)
 }
 
-// ` at M: A B ..`
-fn push_told(
+// `maps NAME at M: A B ..`
+fn at_manager(
     alloc: Global,
-    text: &mut Vec<u8>,
+    user: &Name,
     manager: NodeNo,
     named: NodeSet,
-) -> Result<(), AllocError>
-    ensures { OnOk result (text.new.items ≡ text.old.items ++ codes " at " ++ decimal manager ++ codes ":" ++ node_words (nodes_in named 16)) }
+) -> Result<Octets, AllocError>
+    ensures { IfOk result (λ text. text ≡ maps_text user.now (Some (manager, nodes_in named 16))) }
 {
-    push_number(alloc, text, b" at ", u64::from(manager.number()))?;
+    let mut text = map_of(alloc, user)?;
+    push_number(alloc, &mut text, b" at ", u64::from(manager.number()))?;
     text.extend_from_slice(b":")?;
-    push_nodes(alloc, text, named)
+    push_nodes(alloc, &mut text, named)?;
+    Ok(Octets::from_vec(text))
+}
+
+// `maps NAME none`
+fn at_nobody(alloc: Global, user: &Name) -> Result<Octets, AllocError>
+    ensures { IfOk result (λ text. text ≡ maps_text user.now None) }
+{
+    let mut text = map_of(alloc, user)?;
+    text.extend_from_slice(b" none")?;
+    Ok(Octets::from_vec(text))
 }
 
 /// `maps NAME at M: A B ..`, or `maps NAME none`
@@ -40,10 +50,8 @@ pub(crate) fn mapped(
 ) -> Result<Octets, AllocError>
     ensures { IfOk result (λ text. text ≡ maps_text user.now (map_seen told.now)) }
 {
-    let mut text = map_of(alloc, user)?;
     match told {
-        Some((manager, named)) => push_told(alloc, &mut text, *manager, *named)?,
-        None => text.extend_from_slice(b" none")?,
+        Some(told) => at_manager(alloc, user, told.0, told.1),
+        None => at_nobody(alloc, user),
     }
-    Ok(Octets::from_vec(text))
 }

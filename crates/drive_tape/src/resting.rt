@@ -1,5 +1,6 @@
 // What the run lines make of the cluster by which it comes to rest, and what is told of its maps.
-ghost use Rattle.std.specs.Prelude.{◌≡◌, ◌≤◌, List, Ok, IsErrOf};
+ghost use Rattle.std.specs.Prelude.{◌≡◌, ◌≤◌, ◌&&◌, not, nat_eq, List, Ok, IsErrOf};
+ghost use Rattle.object_model.specs.Sets.{has};
 ghost use Rattle.mail_model.specs.Tape.{ClusterOrder as order};
 ghost use Rattle.session_model.specs.Acts.{Act as AnAct};
 ghost use Rattle.node_store.specs.Disks.{view_of};
@@ -9,7 +10,7 @@ ghost use Rattle.cluster_world.specs.Outcomes.{Outcome, Awaited};
 ghost use Rattle.cluster_world.specs.declared.world.World.{World as AWorld};
 ghost use Rattle.drive_tape.specs.Forms.{SettlesTo};
 ghost use Rattle.drive_tape.specs.Worlds.{WorldIsReady};
-ghost use Rattle.drive_tape.specs.Moved.{MovedSo, OrderIsFit, ReportedSo, ReportsSo};
+ghost use Rattle.drive_tape.specs.Moved.{MovedSo, OrderIsFit, IsSaidOfReport, SendsTo, ReportedSo, ReportsSo};
 
 use crate::Stop;
 use crate::denial::stop_by;
@@ -19,7 +20,41 @@ use io_edge::Disk;
 use mail_base::{Name, NodeNo, NodeSet};
 use std::alloc::Global;
 
+// Whether the second node is one of these members, and another than the first.
+fn is_other(members: NodeSet, from: NodeNo, to: NodeNo) -> bool
+    ensures { result ≡ (has members to && not (nat_eq from to)) }
+{
+    members.has(to) && from != to
+}
+
+// The node of this number.
+fn numbered(number: u8) -> NodeNo
+    requires above { 1 ≤ number }
+    requires within { number ≤ 16 }
+    ensures { result ≡ number }
+{
+    let Some(node) = NodeNo::new(number) else {
+        unreachable!()
+    };
+    node
+}
+
+// How many letters a report sent.
+fn sent(said: &Result<Said, StepFault>) -> Result<u64, Stop>
+    requires fits { IsSaidOfReport said.now }
+    ensures sent { SendsTo said.now result }
+    ensures why { IsErrOf result Stop.WriteFault → ⊥ }
+{
+    match said {
+        Ok(Said::Sent { letters }) => Ok(*letters),
+        // Nothing else is said of it.
+        Ok(_) => unreachable!(),
+        Err(fault) => Err(stop_by(*fault)),
+    }
+}
+
 // How many letters a node sent to another, as its manager.
+#[tactic(auto, using(crate::proofs::Reports::said_of_report))]
 fn report_to<D: Disk>(
     world: &mut World<D>,
     alloc: Global,
@@ -32,16 +67,12 @@ fn report_to<D: Disk>(
     ensures reported { ReportedSo (view_of D.seen D.faults D.clock) from to result world.old world.new }
     ensures why { IsErrOf result Stop.WriteFault → ⊥ }
 {
-    match world.step(alloc, Step::Report { from, to }) {
-        Ok(Said::Sent { letters }) => Ok(letters),
-        // Nothing else is said of it.
-        Ok(_) => unreachable!(),
-        Err(fault) => Err(stop_by(fault)),
-    }
+    let said = world.step(alloc, Step::Report { from, to });
+    sent(&said)
 }
 
-#[tactic(auto, using(crate::proofs::Reports::reported_none, crate::proofs::Reports::reported_past, crate::proofs::Reports::reported_more, crate::proofs::Reports::refused_before, crate::proofs::Reports::refused_now))]
 // How many letters a node sent to each other of these members, of the nodes from 1 to so many, in rising order.
+#[tactic(auto, using(crate::proofs::Reports::reported_none, crate::proofs::Reports::reported_past, crate::proofs::Reports::refused_before))]
 fn report_each<D: Disk>(
     world: &mut World<D>,
     alloc: Global,
@@ -60,8 +91,8 @@ fn report_each<D: Disk>(
         return Ok(0);
     }
     let sent = report_each(world, alloc, from, members, nodes - 1)?;
-    let to = NodeNo::new(nodes).unwrap();
-    if members.has(to) && from != to {
+    let to = numbered(nodes);
+    if is_other(members, from, to) {
         let more = report_to(world, alloc, from, to)?;
         return Ok(sent.saturating_add(more));
     }

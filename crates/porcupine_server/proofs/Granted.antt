@@ -167,11 +167,11 @@ module _ {D : Type 0} (on : View D) (start last : World D) (begins : IsAtBeginni
       let r = is_refusal cause fault stops in
       let o = order_follows on plan asked made_steps followed.mid mid followed.known followed.next followed.stands makes_order in
       denied_there asked order made is_made first_step grants (map made_seen made_steps) r.0 o.next o.makes (denied_alike asked cause r.0 r.1 made_steps denied)
-  refuses_by order made fault first_step grants (Settling (Err cause) made_steps) stops is_made between mid (makes_it, are, left_is) = ⊎_elim
+  refuses_by line made fault first_step grants (Settling (Err cause) made_steps) stops is_made between mid (makes_it, are, left_is) = ⊎_elim
       (λ (by_step : IsRefusedBy cause makes_it.steps).
       let r = is_refusal by_step.cause fault (stays_cause by_step.cause fault (sym (ap stop_by by_step.is) ∙ stops)) in
       let o = settle_follows on plan made_steps followed.mid mid followed.known followed.next followed.stands (subst AreOfSettle are makes_it.of) (subst (λ (l : List StepMade). MakesSteps on l followed.mid mid) are makes_it.made) in
-      denied_there order.Settle order made is_made first_step grants (map made_seen made_steps) r.0 o.next o.makes
+      denied_there order.Settle line made is_made first_step grants (map made_seen made_steps) r.0 o.next o.makes
       (denied_alike order.Settle by_step.cause r.0 r.1 made_steps (by_step.ends.front, by_step.ends.one, sym are ∙ by_step.ends.split, by_step.ends.failed)))
       (λ (vain : SweepsInVain on cause followed.mid mid makes_it.steps). let never : why.NoMemory ≡ why.Bad fault = sym (ap stop_by vain.is) ∙ stops in cc)
       makes_it.shape

@@ -216,7 +216,7 @@ module _ {D : Type 0} (on : View D) (plan : Plan) where
 
   -- the steps of a report
   abbrev AreForms : ℕ → List MadeStep → Type 0
-  AreForms node steps = asks.AreOf (λ one. one.step ≡ steps.Step.Form node) steps
+  AreForms node made = asks.AreOf (λ (one : MadeStep). one.step ≡ steps.Step.Form node) made
 
   reports_to : (node : ℕ) (others : List ℕ) (steps : List StepMade) → StepsTo (step.Report node) others steps → AreForms node (map made_seen steps) × AllEnded steps
   reports_to node [] steps none = (subst (λ (l : List StepMade). AreForms node (map made_seen l)) (sym none) tt, subst AllEnded (sym none) tt)

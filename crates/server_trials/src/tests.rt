@@ -12,6 +12,7 @@ mod maildrops;
 mod messages;
 mod pieces;
 mod plans;
+mod prefixes;
 mod recipients;
 mod regroups;
 mod replies;

@@ -52,6 +52,21 @@ const LEFT: [[u8; 6]; 21] = [
     *b"bp..po", *b"bp..qu", *b"bA12S3", *b"bs..32",
 ];
 
+// Rows that are reported, and settles, at the first plan. All nodes have a copy of each message, and node 1 manages ann.
+const SETTLES: [[u8; 6]; 27] = [
+    // Nothing is due, and nobody has mail.
+    *b"aE..se", *b"bM..10", *b"a^21L0",
+    // A message: node 1 knows of its own copy at once, and of that of node 2 once its report is heard.
+    *b"aD1.B1", *b"bM..11", *b"bp..po", *b"a^21L1", *b"ap..po", *b"bp..po", *b"bM..11", *b"ap..po",
+    *b"aM..13",
+    // A settle in the name of each pass does the rest.
+    *b"bE..se", *b"aM..17", *b"aE..se", *b"b^31L0", *b"ap..qu",
+    // A node stops: it is a member until the others regroup.
+    *b"bC2...", *b"aE..a2", *b"aR1.E5", *b"bE..se", *b"bM..15", *b"a^21do", *b"a^14n?",
+    // Its manager stops.
+    *b"aC1...", *b"bM..no", *b"bE..a1",
+];
+
 fn first_id() -> MsgId {
     MsgId::new(node(1), 1, 1).unwrap()
 }
@@ -410,5 +425,23 @@ fn those_that_are_left_take_mail(rt: HostRuntime) -> Result<(), Fail> {
     let sum = board.close(first).sum();
     assert_eq!(rt; left?, 0);
     assert_eq!(rt; told_sum(&sum), *b"32");
+    Ok(())
+}
+
+#[test]
+fn the_latest_epoch_settles(rt: HostRuntime) -> Result<(), Fail> {
+    let alloc = rt.alloc();
+    let Ok(world) = opened(alloc, 3, 2) else {
+        panic!(rt; "no world");
+    };
+    let Some((board, mut first)) = made(alloc, world, CARRY, 2) else {
+        panic!(rt; "no memory");
+    };
+    let mut second = board.split(&mut first, 1);
+    let left = left_of(&rt, alloc, &board, &mut first, &mut second, &SETTLES);
+    board.join(&mut first, second);
+    let sum = board.close(first).sum();
+    assert_eq!(rt; left?, 0);
+    assert_eq!(rt; told_sum(&sum), *b"00");
     Ok(())
 }

@@ -71,7 +71,7 @@ fn members_are_not_there(rt: HostRuntime) -> Result<(), Fail> {
         *b"R1. 23", *b"Z.. st", *b"m.. 13", *b"u.. --",
         // The lowest one that is not live is told. A manager that is not tells nothing.
         *b"C1. ..", *b"C2. ..", *b"Z.. -1", *b"m.. no", *b"S1. U2", *b"S2. U3", *b"S3. U2",
-        *b"Z.. -1", *b"m.. no", *b"u.. --", *b"R3. 37", *b"Z.. st",
+        *b"Z.. -1", *b"m.. no", *b"u.. --", *b"R3. 27", *b"Z.. st",
     ];
     assert_eq!(rt; left(rt.alloc(), &rows), Ok(0));
     Ok(())

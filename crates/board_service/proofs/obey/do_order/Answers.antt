@@ -10,5 +10,5 @@ returns-clause-goes g c =
 
 pub returns-clause-ordered : goal.returns-clause-ordered
 returns-clause-ordered g c =
-    ordered_so (view_of g.D.Disk.seen g.D.Disk.faults g.D.Disk.clock) c.args.board.now c.args.order c.args.number c.args.ordered c.args.pass.now c.console-came.new.pass c.console-came.result c.console-came.ensures.turn
+    ordered_so (view_of g.D.Disk.seen g.D.Disk.faults g.D.Disk.clock) c.args.board.now c.args.order.now c.args.number c.args.ordered c.args.pass.now c.console-came.new.pass c.console-came.result c.console-came.ensures.turn
     c.say_answer.result _ _ c.say_answer.ensures

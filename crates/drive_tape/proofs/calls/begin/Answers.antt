@@ -1,6 +1,5 @@
 use Rattle.node_store.specs.Disks.{view_of}
 use Rattle.drive_tape.specs.Kinds.{IsKindOf}
-use Rattle.drive_tape.proofs.Beginnings.{said_of_beginning}
 use Rattle.drive_tape.proofs.Calling.{handed_on}
 use Rattle.drive_tape.proofs.calls.begin.Goals as goal
 

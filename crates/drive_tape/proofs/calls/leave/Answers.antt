@@ -1,5 +1,4 @@
 use Rattle.node_store.specs.Disks.{view_of}
-use Rattle.drive_tape.proofs.Beginnings.{said_of_leave}
 use Rattle.drive_tape.proofs.Calling.{left_so}
 use Rattle.drive_tape.proofs.calls.leave.Goals as goal
 

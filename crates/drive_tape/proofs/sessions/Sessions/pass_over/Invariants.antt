@@ -1,4 +1,4 @@
-use Rattle.std.proofs.Common.{◌-◌, ◌≤◌, length}
+use Rattle.std.proofs.Common.{◌-◌, length}
 use Rattle.drive_tape.specs.Moving.{AreOver}
 use Rattle.drive_tape.proofs.sessions.Sessions.pass_over.Given as goal
 
