@@ -1,13 +1,11 @@
 -- A step of the whole machine, in which tickets stay, is a step in which calls that read do nothing.
-use Rattle.std.proofs.Common.{◌≡◌, ◌⊎◌, inl, inr, ⊎_elim, ℕ, ◌≤◌, ◌<◌, arith, Bool, List, [], ◌∷◌, map, Some, refl, sym, ap, ◌∙◌, subst, le_of_eq, le_refl}
+use Rattle.std.proofs.Common.{◌≡◌, ◌⊎◌, inl, inr, ⊎_elim, ◌≤◌, ◌<◌, arith, Bool, List, ◌∷◌, map, refl, sym, ap, ◌∙◌, subst, le_of_eq}
 use Rattle.std.specs.FinMap as fin
 use Rattle.mail_model.specs.Record.{Record}
-use Rattle.object_model.specs.Lists.{Among}
 use Rattle.object_model.specs.Letters.{Body, Letter}
 use Rattle.object_model.specs.Letters.Body.{File, Filed, LoginAsk, LoginTold, ListAsk, ListTold, FetchAsk, FetchTold, Strike, StrikeTold, Unlock, Push, PushAck, Retire, Group, Join, Install, Report, ReportAck}
 use Rattle.cluster_model.specs.Cluster as mail
 use Rattle.cluster_model.specs.Claims.{boot_of}
-use Rattle.cluster_model.specs.World.{letters_of}
 use Rattle.whole_model.specs.Whole as whole
 use Rattle.login_model.specs.Cluster as login
 use Rattle.login_model.specs.Facts.{IsReadBody}
@@ -16,7 +14,7 @@ use Rattle.login_model.specs.Parts as login_parts
 use Rattle.login_model.specs.Beside.{TurnsBeside, IsBeside}
 use Rattle.login_model.specs.Beside.TurnsBeside.{Works as StaysUp, IsOff as GoesOff, Starts as ComesUp}
 use Rattle.login_model.proofs.Beside.{beside_sound}
-use Rattle.joint_model.specs.Joint.{Node, Life, Slot, slot_at, whole_slot, read_node, read_life, read_slot}
+use Rattle.joint_model.specs.Joint.{Node, Life, Slot, whole_slot, read_node, read_life, read_slot}
 use Rattle.joint_model.specs.Joint.Life.{Up, Down, Lost}
 use Rattle.joint_model.proofs.Kept.{read_here}
 use Rattle.joint_model.proofs.Settled.{read_back}

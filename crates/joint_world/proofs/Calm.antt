@@ -1,6 +1,5 @@
 -- A step of the whole machine, as messages see it, does nothing to calls that read: each node that stays up keeps its boot, and letters of these calls stay.
-use Rattle.std.proofs.Common.{◌≡◌, ◌⊎◌, inl, inr, ⊎_elim, ℕ, zero, suc, ◌+◌, ◌≤◌, ◌<◌, arith, Bool, true, false, not, ◌&&◌, List, [], ◌∷◌, ◌++◌, append-nil, append_assoc, length, Option, Some, None, refl, sym, ap, ◌∙◌, subst, nat_eq, le_refl, le_trans, le_of_eq, if◌then◌else◌}
-use Rattle.std.specs.Prelude.{slice_set}
+use Rattle.std.proofs.Common.{◌≡◌, ◌⊎◌, inl, inr, ⊎_elim, ℕ, zero, suc, ◌+◌, ◌≤◌, ◌<◌, arith, Bool, true, false, not, ◌&&◌, List, [], ◌∷◌, ◌++◌, append-nil, append_assoc, Option, Some, None, refl, sym, ap, ◌∙◌, subst, nat_eq, le_refl, le_trans, le_of_eq, if◌then◌else◌}
 use Rattle.std.specs.FinMap as fin
 use Rattle.mail_model.specs.Identity.{Id, Stamp, EpochId, Key, State}
 use Rattle.mail_model.specs.Identity.Key.{Message}
@@ -17,7 +16,7 @@ use Rattle.object_model.specs.Mishaps.MishapKind.{Crowded, Disk, Dropped, Stale 
 use Rattle.object_model.specs.UpdateLog.{Logged, cleared}
 use Rattle.object_model.specs.States.{is_same_state}
 use Rattle.object_model.specs.Said.{said}
-use Rattle.object_model.proofs.Lists.{among_front, among_behind, among_either, among_last, same_some}
+use Rattle.object_model.proofs.Lists.{among_front, among_behind, among_either, among_last}
 use Rattle.cluster_model.specs.Cluster.{Ticket, Node, Life, Slot, slot_at, with_slot, pending_of, epoch_of}
 use Rattle.cluster_model.specs.Cluster.Life.{Up, Down, Lost}
 use Rattle.cluster_model.specs.Claims.{boot_of, boot_after}
@@ -26,7 +25,7 @@ use Rattle.cluster_model.specs.Store.{Store, Update, take_all, with_octets, gone
 use Rattle.cluster_model.specs.Rules.{Reaction, StrikeItem, idle, answer, store_of, shrunk, acked_at, retired_at, told_at, with_updates, pushed_octets, ticket_at, push, push_of, widened, widen, begin_deliver, begin_strike, begin_read, end_ticket, dated, marks_for, new_number, receivers, letters_to, strike_to, strikes_to, mishap, failed_at}
 use Rattle.cluster_model.specs.Deeds.{slot_up, hear, hear_body}
 use Rattle.cluster_model.specs.Forms.{IsMapsBody, promise_records, FormsEpoch}
-use Rattle.cluster_model.specs.Starts.{StartsNode, StopsStart}
+use Rattle.cluster_model.specs.Starts.{StopsStart}
 use Rattle.cluster_model.specs.Thrown.{with_stamps}
 use Rattle.cluster_model.specs.Room.{Flight, has_room, keys_pushed}
 use Rattle.cluster_model.specs.World.{World, letters_of, other_end, missed_by, missed_at, missed_under, missed, put, Flies, flies_on}
@@ -43,12 +42,12 @@ use Rattle.cluster_model.specs.Makes.Widens.{Adds, FailsWidening}
 use Rattle.cluster_model.specs.Makes.FormsAt.{Does, HasNone, FailsForming}
 use Rattle.cluster_model.specs.Makes.StartsUp.{Comes, FailsStarting}
 use Rattle.cluster_model.specs.Makes.RunsShort.{Beginning, Hearing, Widening, Forming, Starting}
-use Rattle.cluster_model.proofs.Slots.{at_same, read_after, read_before}
+use Rattle.cluster_model.proofs.Slots.{read_after, read_before}
 use Rattle.cluster_model.proofs.StoreSteps.{boot_both}
 use Rattle.cluster_model.proofs.Logs.{sent_to}
 use Rattle.cluster_model.proofs.HearLogs.{among_flat}
 use Rattle.cluster_model.proofs.Stepping.{letters_both, letters_around, flew}
-use Rattle.whole_model.specs.Rules.{IsOfMessages, AreOfMessages}
+use Rattle.whole_model.specs.Rules.{IsOfMessages}
 use Rattle.whole_model.proofs.Appends.{Grew, grew_none, grew_on, grew_all, grew_octets, hears_of}
 use Rattle.whole_world.proofs.Stepwise.{flew_on}
 use Rattle.login_model.specs.Facts.{IsReadBody}

@@ -18,12 +18,12 @@ use Rattle.cluster_model.proofs.Leading.{no_move, led_on, acted_leads}
 use Rattle.cluster_model.proofs.Learning.{learns}
 use Rattle.cluster_model.proofs.Closing.{refuse_acts}
 use Rattle.cluster_model.proofs.Stepping.{letters_both, quiet_leads, letter_idle}
-use Rattle.whole_model.specs.Whole.{Node, Life, Slot, slot_at, with_slot, mail_slot, maps_slot}
+use Rattle.whole_model.specs.Whole.{Node, Life, Slot, slot_at, with_slot, maps_slot}
 use Rattle.whole_model.specs.Whole.Life.{Up, Down}
 use Rattle.whole_model.specs.Rules.{follows}
 use Rattle.whole_world.specs.World.{World, mail_world_of, maps_world_of, slot_up, IsUp, FollowsAlong, cut_world}
 use Rattle.whole_world.specs.Makes.{NodeGoesDown}
-use Rattle.whole_world.specs.Laws.{OneEpoch, Stands}
+use Rattle.whole_world.specs.Laws.{Stands}
 use Rattle.whole_world.proofs.Plain.{IsPlain}
 use Rattle.whole_world.proofs.Plain.Turns.{Rests}
 use Rattle.whole_world.proofs.Stepwise.{flew_on}

@@ -8,3 +8,4 @@ pub mod Reading
 pub mod Standing
 pub mod Opening
 pub mod Told
+pub mod Ending

@@ -1,5 +1,5 @@
 -- All stands in a cluster that opens.
-use Rattle.std.proofs.Common.{◌≡◌, inl, inr, ⊎_elim, ℕ, zero, suc, ◌≤◌, Bool, List, [], ◌∷◌, append-nil, map, Some, refl, sym, ap, ◌∙◌, subst}
+use Rattle.std.proofs.Common.{◌≡◌, ⊎_elim, ℕ, zero, suc, ◌≤◌, Bool, List, [], ◌∷◌, append-nil, map, Some, refl, sym, ap, ◌∙◌, subst}
 use Rattle.std.specs.FinMap as fin
 use Rattle.mail_model.specs.Plan.{Plan}
 use Rattle.object_model.specs.Lists.{Among}
@@ -13,10 +13,10 @@ use Rattle.whole_world.specs.Laws as whole_laws
 use Rattle.whole_world.proofs.InFirst.{first_stands}
 use Rattle.login_model.specs.Cluster as login
 use Rattle.login_model.proofs.Others.{opens}
-use Rattle.joint_model.specs.Joint.{Slot, whole_slot, read_node, read_slot}
+use Rattle.joint_model.specs.Joint.{whole_slot, read_node, read_slot}
 use Rattle.joint_model.proofs.Settled.{read_back}
 use Rattle.joint_world.specs.World.{whole_world_of}
-use Rattle.joint_world.specs.Laws.{Stands, TellAlike}
+use Rattle.joint_world.specs.Laws.{Stands}
 use Rattle.joint_world.specs.First.{first_node, first_slot, first_slots, first_world}
 use Rattle.joint_world.proofs.Views.{alike_more}
 

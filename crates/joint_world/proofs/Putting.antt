@@ -5,7 +5,7 @@ use Rattle.object_model.specs.Lists.{Among}
 use Rattle.object_model.specs.Mishaps.{MishapKind}
 use Rattle.object_model.specs.Mishaps.MishapKind.{Crowded}
 use Rattle.object_model.specs.Letters.{Number, Letter}
-use Rattle.object_model.proofs.Lists.{among_front, among_behind, among_either, same_some}
+use Rattle.object_model.proofs.Lists.{among_either}
 use Rattle.cluster_model.specs.Room.{Flight, fits, octets_of, octets_of_all, has_room}
 use Rattle.cluster_model.specs.World.{letters_of}
 use Rattle.cluster_model.proofs.Stepping.{letters_both}

@@ -1,6 +1,5 @@
 -- What a node does for a call that reads keeps what is known of these calls, and the whole machine sees little of it.
-use Rattle.std.proofs.Common.{◌≡◌, ◌⊎◌, inl, inr, ⊎_elim, ℕ, zero, suc, ◌+◌, ◌≤◌, arith, Bool, true, false, List, [], ◌∷◌, ◌++◌, append-nil, map, Option, Some, None, refl, sym, ap, ◌∙◌, subst, le_refl, le_of_eq}
-use Rattle.mail_model.specs.Plan.{Plan}
+use Rattle.std.proofs.Common.{◌≡◌, ◌⊎◌, inl, inr, ⊎_elim, ℕ, ◌≤◌, Bool, true, false, List, [], ◌∷◌, ◌++◌, append-nil, map, Option, Some, None, refl, sym, ap, ◌∙◌, subst, le_refl}
 use Rattle.mail_model.specs.Record.{Record}
 use Rattle.object_model.specs.Lists.{Among}
 use Rattle.object_model.specs.Mishaps.{MishapKind}
@@ -31,14 +30,14 @@ use Rattle.joint_model.specs.Joint.Life.{Up, Down, Lost}
 use Rattle.joint_model.proofs.Kept.{whole_here, read_here, read_set}
 use Rattle.joint_model.proofs.Settled.{read_back}
 use Rattle.joint_world.specs.World.{World, whole_world_of, mail_world_of, reads_of, IsUp}
-use Rattle.joint_world.specs.Rules.{Reaction, reacted, befallen}
+use Rattle.joint_world.specs.Rules.{reacted, befallen}
 use Rattle.joint_world.specs.Putting.{Missed, missed_by, missed_at, missed_under, missed, Puts}
 use Rattle.joint_world.specs.Makes.{learnt, Does, Loses, fallen}
 use Rattle.joint_world.specs.Laws.{TellAlike, HasGrown}
-use Rattle.joint_world.specs.Seen.{SeesOne, SeesReading}
+use Rattle.joint_world.specs.Seen.{SeesReading}
 use Rattle.joint_world.specs.Seen.SeesOne.{Learns, Draws, Takes, Falls}
 use Rattle.joint_world.proofs.Rules.{Alone, seen_is}
-use Rattle.joint_world.proofs.Views.{whole_same, whole_again, whole_set, whole_there, alike_more, SameDisks, disks_on, disks_write, OfDisks, of_disks, of_disks_on}
+use Rattle.joint_world.proofs.Views.{whole_again, whole_set, whole_there, alike_more, SameDisks, disks_on, disks_write, OfDisks, of_disks, of_disks_on}
 use Rattle.joint_world.proofs.Putting.{Grown, one_more, noted_slots, puts_sound, Sender, missed_seen, missed_disks, puts_disks, sees_on, sees_same, sees_one, puts_see}
 
 -- a step of a call that reads: what is known of these calls is known with a longer story, and no disk changes

@@ -1,11 +1,10 @@
 -- The rules of a node with locks are those of `login_model`, which leave all but tickets and their numbers.
-use Rattle.std.proofs.Common.{◌≡◌, ◌⊎◌, inl, inr, ⊎_elim, ◌≤◌, ℕ, ◌+◌, arith, Bool, true, false, List, [], ◌∷◌, Option, Some, None, refl, sym, ap, ◌∙◌, subst, le_refl, le_of_eq, if◌then◌else◌}
-use Rattle.mail_model.specs.Identity.{Id}
+use Rattle.std.proofs.Common.{◌≡◌, inl, inr, ◌≤◌, ℕ, arith, Bool, true, false, List, [], Option, Some, None, refl, sym, ap, le_refl, if◌then◌else◌}
 use Rattle.mail_model.specs.Plan.{Plan, Proof, proves}
 use Rattle.mail_model.specs.Record.{Record}
 use Rattle.object_model.specs.Mishaps.{MishapKind}
-use Rattle.object_model.specs.Letters.{Number, LoginWord, ToldItem, ToldPart, Body, Letter}
-use Rattle.object_model.specs.Letters.LoginWord.{Named, Wrong, InUse}
+use Rattle.object_model.specs.Letters.{Number, ToldItem, Body, Letter}
+use Rattle.object_model.specs.Letters.LoginWord.{Named, Wrong}
 use Rattle.object_model.specs.Letters.Body.{File, Filed, LoginAsk, LoginTold, ListAsk, ListTold, FetchAsk, FetchTold, Strike, StrikeTold, Unlock, Push, PushAck, Retire, Group, Join, Install, Report, ReportAck}
 use Rattle.login_model.specs.Cluster as login
 use Rattle.login_model.specs.Readings.{ReadTicket}

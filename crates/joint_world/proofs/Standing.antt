@@ -1,20 +1,18 @@
 -- Whatever steps are made, all that stands goes on standing.
-use Rattle.std.proofs.Common.{◌≡◌, ◌≢◌, ◌⊎◌, inl, inr, ⊎_elim, ℕ, ◌+◌, ◌≤◌, arith, Bool, true, false, not, ◌&&◌, List, [], ◌∷◌, ◌++◌, append-nil, append_assoc, map, Option, Some, None, is_some, refl, sym, ap, ◌∙◌, subst, le_refl, true≢false}
+use Rattle.std.proofs.Common.{◌≡◌, ◌≢◌, inl, inr, ⊎_elim, ℕ, arith, Bool, true, false, not, ◌&&◌, List, [], ◌∷◌, ◌++◌, append-nil, append_assoc, map, Option, Some, None, is_some, refl, sym, ap, ◌∙◌, subst, le_refl, true≢false}
 use Rattle.mail_model.specs.Plan.{Plan}
 use Rattle.mail_model.specs.Record.{Record}
 use Rattle.object_model.specs.Lists.{Among}
 use Rattle.object_model.specs.Mishaps.{MishapKind, no_mishaps, counted}
 use Rattle.object_model.specs.Mishaps.MishapKind.{FewMembers, Dropped, Stale as StaleKind, Down as DownKind, Disk}
-use Rattle.object_model.specs.Letters.{Number, LoginWord, ToldItem, Body, Letter}
+use Rattle.object_model.specs.Letters.{Number, ToldItem, Body, Letter}
 use Rattle.object_model.specs.Letters.Body.{LoginAsk, LoginTold, ListAsk, ListTold, FetchAsk, FetchTold, Unlock}
 use Rattle.object_model.proofs.Lists.{same_some}
 use Rattle.cluster_model.specs.Cluster as mail_cluster
 use Rattle.cluster_model.specs.Cluster.{CallKind}
-use Rattle.cluster_model.specs.Claims.{boot_of}
 use Rattle.cluster_model.specs.Thrown.{answers_ticket}
 use Rattle.cluster_model.specs.World as mail
 use Rattle.cluster_model.specs.World.{letters_of}
-use Rattle.cluster_model.specs.Makes as mail_makes
 use Rattle.cluster_model.proofs.Stepping.{flew}
 use Rattle.whole_model.specs.Whole as whole_model
 use Rattle.whole_world.specs.World as whole_world
@@ -27,12 +25,11 @@ use Rattle.whole_world.proofs.Keeping.{apart}
 use Rattle.whole_world.proofs.Stepping.{makes_stand}
 use Rattle.whole_world.proofs.Projecting.{makes_seen}
 use Rattle.login_model.specs.Cluster as login
-use Rattle.login_model.specs.Readings.{Login, ReadTicket}
-use Rattle.login_model.specs.Rules as login_rules
+use Rattle.login_model.specs.Readings.{ReadTicket}
 use Rattle.login_model.specs.Rules.{idle, under, next_number, begin_read, begin_login, begin_fetch, hear_told, told_at, read_at, end_read, give_up_read, leave}
 use Rattle.login_model.specs.Progress.{ask_read}
 use Rattle.login_model.specs.Progress.ReadAsk.{Pending}
-use Rattle.login_model.specs.Facts.{IsReadBody, AnswerAwaited, ReadingWaits, NodesWait}
+use Rattle.login_model.specs.Facts.{IsReadBody, NodesWait}
 use Rattle.login_model.specs.Moves as login_moves
 use Rattle.login_model.specs.Parts as login_parts
 use Rattle.login_model.specs.NodeLaws as login_laws
@@ -50,24 +47,24 @@ use Rattle.joint_model.specs.Moves as joint_moves
 use Rattle.joint_model.proofs.Kept.{whole_here, read_here, read_set}
 use Rattle.joint_model.proofs.Settled.{read_back}
 use Rattle.joint_world.specs.World.{World, cluster_of, whole_world_of, mail_world_of, reads_of, IsUp}
-use Rattle.joint_world.specs.Rules.{Reaction, reacted, judged_here, asked_of, LogsIn, Fetches, Hears, ended, given_up, left}
+use Rattle.joint_world.specs.Rules.{Reaction, judged_here, asked_of}
 use Rattle.joint_world.specs.Putting.{missed, Puts}
-use Rattle.joint_world.specs.Steps.{ReadCall, Step, Said, StepOutcome, step_fault}
+use Rattle.joint_world.specs.Steps.{ReadCall, Step, Said, StepOutcome}
 use Rattle.joint_world.specs.Steps.StepOutcome.{Says, Refused, NoMemory}
 use Rattle.joint_world.specs.Staying.{IsForMail, IsForWhole, ReadsStay}
-use Rattle.joint_world.specs.Makes.{Does, Loses, refused, fallen, HasTicket, learnt, is_late_read, IsFetchAsk, BeginsRead, AnswersRead, GivesUpRead, PostsRead, DropsRead, DoesStep, RunsShort, MakesStep, MadeStep, MakesAll}
+use Rattle.joint_world.specs.Makes.{Does, Loses, refused, fallen, HasTicket, learnt, is_late_read, IsFetchAsk, BeginsRead, AnswersRead, GivesUpRead, PostsRead, DoesStep, MakesStep, MadeStep, MakesAll}
 use Rattle.joint_world.specs.Makes.BeginsRead.{FailsAtOnce, BeginsLogin, BeginsFetch, FailsReading, Leaves}
 use Rattle.joint_world.specs.Makes.AnswersRead.{Waits, Ends}
 use Rattle.joint_world.specs.Makes.PostsRead.{NobodyUp, OfOtherEpoch, TooLate, IsHeard, FailsHearing}
 use Rattle.joint_world.specs.Makes.DoesStep.{ForWhole, Begins, Asks, GivesUp, Posts, Drops}
-use Rattle.joint_world.specs.Seen.{SeesOne, SeesReading, SeesStep}
+use Rattle.joint_world.specs.Seen.{SeesReading, SeesStep}
 use Rattle.joint_world.specs.Seen.SeesOne.{Refuses}
 use Rattle.joint_world.specs.Laws.{TellAlike, IsFront, HasFronts, Stands, HasGrown}
 use Rattle.joint_world.proofs.Keeping.{through_keeps}
 use Rattle.joint_world.proofs.Calm.{IsCalm, grows_in, makes_calm}
 use Rattle.joint_world.proofs.Views.{mail_at, mail_back, whole_set, login_same, alike_more, SameDisks, disks_self, disks_on, disks_write, OfDisks, of_disks, of_disks_on}
 use Rattle.joint_world.proofs.Beside.{besides}
-use Rattle.joint_world.proofs.Rules.{Alone, alone_self, begins_alone, ends_alone, word_here, heard_by}
+use Rattle.joint_world.proofs.Rules.{alone_self, begins_alone, ends_alone, word_here, heard_by}
 use Rattle.joint_world.proofs.Putting.{sees_on, sees_same, sees_one}
 use Rattle.joint_world.proofs.Reading.{Kept, left_of, others_of, does_sound, heard_sound, lost_sound, fell_sound, does_sees, taken_sees, missed_sees, loses_sees, heard_sees, fell_sees}
 

@@ -2,16 +2,15 @@
 use Rattle.std.proofs.Common.{◌≡◌, ◌⊎◌, inl, inr, ⊎_elim, ℕ, zero, suc, Bool, List, [], ◌∷◌, map, Option, Some, None, refl, sym, ap, ◌∙◌, subst}
 use Rattle.std.specs.Prelude.{slice_get, slice_set}
 use Rattle.mail_model.specs.Record.{Record}
-use Rattle.object_model.specs.Lists.{Among}
-use Rattle.object_model.proofs.Lists.{same_some, get_after, get_before}
+use Rattle.object_model.proofs.Lists.{get_after, get_before}
 use Rattle.cluster_model.specs.Cluster as mail
 use Rattle.whole_model.specs.Whole as whole
-use Rattle.whole_model.proofs.Seen.{get_seen, set_seen}
+use Rattle.whole_model.proofs.Seen.{set_seen}
 use Rattle.whole_world.proofs.Along.{mail_here, unseen_at}
 use Rattle.login_model.specs.Cluster as login
-use Rattle.joint_model.specs.Joint.{Node, Life, Slot, slot_at, with_slot, slot_up, whole_slot, read_node, read_slot}
+use Rattle.joint_model.specs.Joint.{Node, Life, Slot, slot_at, with_slot, whole_slot, read_node, read_slot}
 use Rattle.joint_model.specs.Joint.Life.{Up, Down, Lost}
-use Rattle.joint_model.proofs.Kept.{whole_here, read_here, read_set}
+use Rattle.joint_model.proofs.Kept.{whole_here}
 use Rattle.joint_model.proofs.Settled.{read_back, whole_back}
 use Rattle.joint_world.specs.World.{World, mail_world_of}
 use Rattle.joint_world.specs.Laws.{TellAlike}

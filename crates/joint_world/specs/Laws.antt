@@ -1,5 +1,5 @@
 -- What holds of worlds with calls that read, whatever steps are made.
-use Rattle.std.specs.Prelude.{◌≡◌, ℕ, Bool, List, [], ◌∷◌, ◌++◌, map, Some}
+use Rattle.std.specs.Prelude.{◌≡◌, ℕ, Bool, List, ◌++◌, Some}
 use Rattle.mail_model.specs.Plan.{Plan}
 use Rattle.mail_model.specs.Record.{Record}
 use Rattle.object_model.specs.Lists.{Among}
@@ -8,14 +8,12 @@ use Rattle.cluster_model.specs.World.{letters_of}
 use Rattle.whole_world.specs.World as whole_world
 use Rattle.whole_world.specs.Laws as whole
 use Rattle.login_model.specs.Cluster as login
-use Rattle.login_model.specs.Rules.{read_at}
-use Rattle.login_model.specs.Readings.{ReadTicket}
 use Rattle.login_model.specs.Progress.{ask_read}
 use Rattle.login_model.specs.Progress.ReadAsk.{Pending}
 use Rattle.login_model.specs.Parts as login_parts
 use Rattle.joint_model.specs.Joint.{Slot, slot_at}
 use Rattle.joint_model.specs.Moves as joint
-use Rattle.joint_world.specs.World.{World, cluster_of, whole_world_of, reads_of, IsUp}
+use Rattle.joint_world.specs.World.{World, cluster_of, whole_world_of, reads_of}
 use Rattle.joint_world.specs.Makes.{MadeStep, MakesAll, HasTicket}
 use Rattle.joint_world.specs.Seen.{SeesReading}
 
@@ -23,7 +21,7 @@ use Rattle.joint_world.specs.Seen.{SeesReading}
 abbrev pub TellAlike : Bool → List (List login.Slot) → Type 0
 TellAlike tells story = (moment : List login.Slot) → Among moment story → (n : ℕ) (node : login.Node) (disk : List Record) → login.slot_at moment n ≡ Some (login.slot_up node disk) → node.tells ≡ tells
 
--- what a disk had is the front of what it has
+-- what a disk had is a prefix of what it has
 pub record IsFront (was now : List Record) : Type 0 where
   pub rest : List Record
   pub is : now ≡ was ++ rest

@@ -8,3 +8,4 @@ pub mod Seen
 pub mod Laws
 pub mod First
 pub mod Told
+pub mod Ending

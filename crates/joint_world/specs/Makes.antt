@@ -1,5 +1,5 @@
 -- What each step makes of a world, by what it answers.
-use Rattle.std.specs.Prelude.{◌≡◌, ◌⊎◌, ℕ, ◌+◌, Bool, true, false, ◌&&◌, not, List, [], ◌∷◌, ◌++◌, Option, Some, None, is_some}
+use Rattle.std.specs.Prelude.{◌≡◌, ◌⊎◌, ℕ, Bool, true, false, ◌&&◌, not, List, [], ◌∷◌, ◌++◌, Some, None, is_some}
 use Rattle.mail_model.specs.Identity.{Id}
 use Rattle.mail_model.specs.Plan.{Plan, Proof}
 use Rattle.mail_model.specs.Record.{Record}
@@ -12,7 +12,7 @@ use Rattle.object_model.specs.Letters.Body.{FetchAsk}
 use Rattle.cluster_model.specs.Cluster.{CallKind}
 use Rattle.cluster_model.specs.Cluster.CallKind.{LoggingIn, Fetching}
 use Rattle.cluster_model.specs.Rules.{refuse, new_number}
-use Rattle.cluster_model.specs.Thrown.{is_stale, answers_ticket, with_stamps}
+use Rattle.cluster_model.specs.Thrown.{is_stale, answers_ticket}
 use Rattle.cluster_model.specs.Thrown.Why.{WhileDown, Stale, Late}
 use Rattle.cluster_model.specs.World as mail
 use Rattle.cluster_model.specs.Steps as mail_steps
@@ -23,13 +23,13 @@ use Rattle.whole_world.specs.Steps as whole
 use Rattle.whole_world.specs.Steps.Step.{OfMessages}
 use Rattle.whole_world.specs.Steps.StepFault.{Fault}
 use Rattle.whole_world.specs.Makes as whole_makes
-use Rattle.login_model.specs.Readings.{Reading, ReadTicket}
+use Rattle.login_model.specs.Readings.{ReadTicket}
 use Rattle.login_model.specs.Rules.{read_at}
-use Rattle.login_model.specs.Progress.{ReadAnswer, ReadAsk, ask_read}
+use Rattle.login_model.specs.Progress.{ReadAnswer, ask_read}
 use Rattle.login_model.specs.Progress.ReadAsk.{Pending, Done}
 use Rattle.login_model.specs.Facts.{IsReadBody}
 use Rattle.login_model.specs.NodeLaws.{HasHolder}
-use Rattle.joint_model.specs.Joint.{Node, slot_at, with_slot, slot_up, read_node}
+use Rattle.joint_model.specs.Joint.{Node, with_slot, slot_up, read_node}
 use Rattle.joint_model.specs.Joint.Life.{Down}
 use Rattle.joint_world.specs.World.{World, whole_world_of, mail_world_of, IsUp}
 use Rattle.joint_world.specs.Rules.{Reaction, LogsIn, Fetches, Hears, asked_of, ended, given_up, left}

@@ -1,5 +1,5 @@
 -- What becomes of tickets of calls that read, and of locks, in a step of the whole machine.
-use Rattle.std.specs.Prelude.{◌≡◌, ℕ, List, Option, Some, if◌then◌else◌}
+use Rattle.std.specs.Prelude.{◌≡◌, ℕ, Some, if◌then◌else◌}
 use Rattle.std.specs.FinMap as map
 use Rattle.object_model.specs.Keys.{is_same_epoch}
 use Rattle.cluster_model.specs.Steps as mail

@@ -1,5 +1,5 @@
 -- What calls that read were told is on disks still.
-use Rattle.std.specs.Prelude.{◌≡◌, ℕ, Bool, true, List, length, take, drop, map, Some}
+use Rattle.std.specs.Prelude.{◌≡◌, ℕ, Bool, true, List, length, take, drop, Some}
 use Rattle.mail_model.specs.Identity.{Id, State}
 use Rattle.mail_model.specs.Identity.Key.{Message}
 use Rattle.mail_model.specs.Plan.{Plan}

@@ -2,6 +2,7 @@
 ghost use Rattle.joint_world.specs.Seen.{WholeSees};
 ghost use Rattle.joint_world.specs.First.{FirstStands};
 ghost use Rattle.joint_world.specs.Told.{ListedIsKept, PartIsKept};
+ghost use Rattle.joint_world.specs.Ending.{PutsEnd};
 ghost use Rattle.joint_world.specs.Laws.{StepsKeep, StandsIsSound, ReadingKeepsWhole, PendingHasLetter};
 
 /// Whatever steps are made and whatever comes of them, all that stands goes on standing, with a story of slots that grows.
@@ -42,4 +43,9 @@ pub fn listed_is_kept()
 /// A part that a fetch was told is of octets that the disk of the node that told it has.
 pub fn part_is_kept()
     ensures { PartIsKept }
+{}
+
+/// Letters of a call are all put in flight, or lost, within so many looks.
+pub fn puts_end()
+    ensures { PutsEnd }
 {}

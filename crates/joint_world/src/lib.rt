@@ -23,10 +23,11 @@
 //! - `Laws`: what stays, whatever steps are made.
 //! - `First`: a cluster that opens.
 //! - `Told`: what calls that read were told is on disks still.
+//! - `Ending`: that letters are put in flight comes to an end.
 //!
 //! The laws are functions that do nothing, and their contracts hold of the definitions alone: `steps_keep`,
 //! `first_stands`, `stands_is_sound`, `whole_sees`, `reading_keeps_whole`, `pending_has_letter`,
-//! `listed_is_kept`, `part_is_kept`.
+//! `listed_is_kept`, `part_is_kept`, `puts_end`.
 //!
 //! STANDS ON
 //!
@@ -41,6 +42,6 @@
 mod laws;
 
 pub use laws::{
-    first_stands, listed_is_kept, part_is_kept, pending_has_letter, reading_keeps_whole,
+    first_stands, listed_is_kept, part_is_kept, pending_has_letter, puts_end, reading_keeps_whole,
     stands_is_sound, steps_keep, whole_sees,
 };
