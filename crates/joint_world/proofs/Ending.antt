@@ -1,5 +1,5 @@
 -- That letters are put in flight comes to an end.
-use Rattle.std.proofs.Common.{◌≡◌, ◌⊎◌, inl, inr, ⊎_elim, ◌≤◌, ◌+◌, ◌*◌, ℕ, zero, suc, Bool, true, false, List, [], ◌∷◌, ◌++◌, length, Option, Some, None, refl, sym, ap, ◌∙◌, subst, arith, le_refl, nat_eq, if◌then◌else◌}
+use Rattle.std.proofs.Common.{◌≡◌, ◌⊎◌, inl, inr, ⊎_elim, ◌≤◌, ◌+◌, ℕ, zero, suc, Bool, true, false, List, [], ◌∷◌, ◌++◌, length, Option, Some, None, refl, sym, ap, ◌∙◌, subst, arith, le_refl, nat_eq, if◌then◌else◌}
 use Rattle.std.specs.Cmp.{nat_cmp_total}
 use Rattle.std.proofs.lemmas.Map.Lookups.{exact_unsigned}
 use Rattle.object_model.specs.Sets.{has, without_node}
@@ -131,7 +131,7 @@ module _ (tells : Bool) (number : Number) where
   size_both [] ys = omega arith
   size_both (x ∷ xs) ys = let more = size_both xs ys in omega (arith, more)
 
-  ends : (fuel : ℕ) (queue : List Letter) (w : World) → length queue + 2 * chances_left w number ≤ fuel → AreOfTicket number queue → (new : World) × (put tells fuel queue w ≡ Some new)
+  ends : (fuel : ℕ) (queue : List Letter) (w : World) → length queue + chances_left w number ≤ fuel → AreOfTicket number queue → (new : World) × (put tells fuel queue w ≡ Some new)
   ends fuel [] w enough of = (w, refl)
   ends zero (letter ∷ queue) w enough of = absurd (omega (arith, enough))
   ends (suc fuel) (letter ∷ queue) w enough of = by (has_room w.flying letter) (λ q v e o. ends fuel q v e o)
@@ -142,13 +142,13 @@ module _ (tells : Bool) (number : Number) where
       falls : Falls w.slots m
       falls = missed_falls Crowded w.slots letter (of letter (inl refl))
 
-      less : length (queue ++ m.out) + 2 * chances_at number (slot_at m.slots number.node) ≤ fuel
+      less : length (queue ++ m.out) + chances_at number (slot_at m.slots number.node) ≤ fuel
       less = let size = size_both queue m.out in let fewer = falls.less in omega (arith, enough, size, fewer)
 
-      by : (b : Bool) → ((q : List Letter) (v : World) → length q + 2 * chances_left v number ≤ fuel → AreOfTicket number q → (new : World) × (put tells fuel q v ≡ Some new))
+      by : (b : Bool) → ((q : List Letter) (v : World) → length q + chances_left v number ≤ fuel → AreOfTicket number q → (new : World) × (put tells fuel q v ≡ Some new))
           → (new : World) × ((if b then put tells fuel queue (with_letter w letter) else put tells fuel (queue ++ m.out) (record w { slots = m.slots })) ≡ Some new)
       by true rest = rest queue (with_letter w letter) (omega (arith, enough)) (λ one k. of one (inr k))
       by false rest = rest (queue ++ m.out) (record w { slots = m.slots }) less (λ one k. ⊎_elim (λ old. of one (inr old)) (λ new_. falls.of one new_) (among_either one queue m.out k))
 
-  pub puts_end : (queue : List Letter) (w : World) → AreOfTicket number queue → (new : World) × (put tells (length queue + 2 * chances_left w number) queue w ≡ Some new)
-  puts_end queue w of = ends (length queue + 2 * chances_left w number) queue w (le_refl (length queue + 2 * chances_left w number)) of
+  pub puts_end : (queue : List Letter) (w : World) → AreOfTicket number queue → (new : World) × (put tells (length queue + chances_left w number) queue w ≡ Some new)
+  puts_end queue w of = ends (length queue + chances_left w number) queue w (le_refl (length queue + chances_left w number)) of

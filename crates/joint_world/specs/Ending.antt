@@ -1,5 +1,5 @@
 -- That letters are put in flight comes to an end.
-use Rattle.std.specs.Prelude.{◌≡◌, ◌⊎◌, ◌+◌, ◌*◌, ℕ, Bool, true, List, length, Option, Some, None}
+use Rattle.std.specs.Prelude.{◌≡◌, ◌⊎◌, ◌+◌, ℕ, Bool, true, List, length, Option, Some, None}
 use Rattle.object_model.specs.Lists.{Among}
 use Rattle.object_model.specs.Letters.{Number, Letter}
 use Rattle.login_model.specs.Readings.{ReadTicket}
@@ -33,4 +33,4 @@ AreOfTicket number letters = (letter : Letter) → Among letter letters → (let
 
 -- The letters that a step sends for a call are of its ticket. So many looks at them are enough: each mishap takes a chance of the call away with the letter that it sends.
 abbrev pub PutsEnd : Type 0
-PutsEnd = (tells : Bool) (number : Number) (queue : List Letter) (w : World) → AreOfTicket number queue → (new : World) × (put tells (length queue + 2 * chances_left w number) queue w ≡ Some new)
+PutsEnd = (tells : Bool) (number : Number) (queue : List Letter) (w : World) → AreOfTicket number queue → (new : World) × (put tells (length queue + chances_left w number) queue w ≡ Some new)
