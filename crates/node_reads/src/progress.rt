@@ -155,9 +155,8 @@ impl ReadProgress {
     }
 
     // A mishap at a node befalls the call.
-    fn fail(&mut self, u: &Under, at: NodeNo) -> Result<Option<Letter>, AllocError>
-        ensures ok { IfOk result (λ letter. record { ticket = self.new; out = listed letter } ≡ ticket_did self.old.mishaps (befell u.now at self.old.reading)) }
-        ensures err { OnErr result (self.new ≡ self.old) }
+    fn fail(&mut self, u: &Under, at: NodeNo) -> Option<Letter>
+        ensures { record { ticket = self.new; out = listed result } ≡ ticket_did self.old.mishaps (befell u.now at self.old.reading) }
     {
         match &mut self.reading {
             Reading::LogsIn(login) => login.befell(u, at),
@@ -165,23 +164,13 @@ impl ReadProgress {
         }
     }
 
-    /// A mishap is counted; a login that waits for the node fails, and a fetch that does asks the next holder.
-    ///
-    /// # Errors
-    ///
-    /// Out of memory alone; the ticket is then as before.
-    pub(crate) fn befell(
-        &mut self,
-        u: &Under,
-        kind: MishapKind,
-        at: NodeNo,
-    ) -> Result<Option<Letter>, AllocError>
-        ensures ok { IfOk result (λ letter. record { ticket = self.new; out = listed letter } ≡ ticket_befell u.now (kind_of_mishap kind) at self.old) }
-        ensures err { OnErr result (self.new ≡ self.old) }
+    /// A mishap is counted; a login that waits for the node fails, and a fetch that does asks the next holder. It takes no memory.
+    pub(crate) fn befell(&mut self, u: &Under, kind: MishapKind, at: NodeNo) -> Option<Letter>
+        ensures { record { ticket = self.new; out = listed result } ≡ ticket_befell u.now (kind_of_mishap kind) at self.old }
     {
-        let letter = self.fail(u, at)?;
+        let letter = self.fail(u, at);
         count(&mut self.mishaps, kind);
-        Ok(letter)
+        letter
     }
 
     /// It is given up. It takes no memory.

@@ -28,8 +28,8 @@ use crate::progress::{ReadProgress, Reading};
 use crate::under::Under;
 use call_tickets::Ask;
 use mail_base::{
-    Body, CallKind, EpochId, Letter, LoginWord, MsgId, Name, NodeNo, NodeSet, Proof, Sequence, Ticket,
-    ToldItem, ToldPart,
+    Body, CallKind, EpochId, Letter, LoginWord, MsgId, Name, NodeNo, NodeSet, Proof, Sequence,
+    Ticket, ToldItem, ToldPart,
 };
 use node_tickets::MishapKind;
 use std::alloc::{AllocError, Global};
@@ -130,13 +130,12 @@ fn befell_at(
     u: &Under,
     kind: MishapKind,
     at: NodeNo,
-) -> Result<Option<Letter>, AllocError>
-    ensures ok { IfOk result (λ letter. did_if_stands (ticket_befell u.now (kind_of_mishap kind) at) (seen entries.old.entries) seq (fin.get (seen entries.old.entries) seq) ≡ record { reads = seen entries.new.entries; out = listed letter }) }
-    ensures err { OnErr result (seen entries.new.entries ≡ seen entries.old.entries) }
+) -> Option<Letter>
+    ensures { did_if_stands (ticket_befell u.now (kind_of_mishap kind) at) (seen entries.old.entries) seq (fin.get (seen entries.old.entries) seq) ≡ record { reads = seen entries.new.entries; out = listed result } }
 {
     match entries.get_mut(&seq) {
         Some(progress) => progress.befell(u, kind, at),
-        None => Ok(None),
+        None => None,
     }
 }
 
@@ -291,7 +290,7 @@ impl NodeReads {
             user: user.copy()?,
             proof,
         };
-        self.put(seq, Reading::LogsIn(Login::new(user, manager)))?;
+        self.put(seq, Reading::LogsIn(Login::new(user, manager)?))?;
         Ok(ask(&u, manager, asked))
     }
 
@@ -316,7 +315,7 @@ impl NodeReads {
         ensures whose { IsOf self.old.own self.old.boot self.new }
     {
         let u = self.next_under(epoch, seq);
-        let mut login = Login::new(user, self.own);
+        let mut login = Login::new(user, self.own)?;
         let letters = login.take_word(alloc, &u, word, mine)?;
         self.put(seq, Reading::LogsIn(login))?;
         Ok(letters)
@@ -330,6 +329,7 @@ impl NodeReads {
     /// Out of memory alone; the tickets are then as before.
     pub fn begin_fetch(
         &mut self,
+        alloc: Global,
         epoch: EpochId,
         seq: u64,
         user: Name,
@@ -344,8 +344,8 @@ impl NodeReads {
         ensures whose { IsOf self.old.own self.old.boot self.new }
     {
         let u = self.next_under(epoch, seq);
-        let mut fetch = Fetch::new(user, id, from, most);
-        let letter = fetch.ask_next(&u, holders)?;
+        let mut fetch = Fetch::new(alloc, self.own, user, id, from, most, holders)?;
+        let letter = fetch.ask_next(&u, holders);
         self.put(seq, Reading::Fetches(fetch))?;
         Ok(letter)
     }
@@ -358,6 +358,7 @@ impl NodeReads {
     /// Out of memory alone; the tickets are then as before.
     pub fn begin_own_fetch(
         &mut self,
+        alloc: Global,
         seq: u64,
         user: Name,
         id: MsgId,
@@ -369,8 +370,7 @@ impl NodeReads {
         ensures err { OnErr result (reads_in self.new ≡ reads_in self.old) }
         ensures whose { IsOf self.old.own self.old.boot self.new }
     {
-        let mut fetch = Fetch::new(user, id, from, most);
-        fetch.answer(self.own, part);
+        let fetch = Fetch::answered(alloc, user, id, from, most, self.own, part);
         self.put(seq, Reading::Fetches(fetch))
     }
 
@@ -440,24 +440,19 @@ impl NodeReads {
     }
 
     /// Notes a mishap of a letter to or from the node at this ticket. A login that waits for the node fails, and its manager gets
-    /// the lock back; a fetch that does asks the next holder. There is one letter at most.
-    ///
-    /// # Errors
-    ///
-    /// Out of memory alone; the tickets are then as before.
+    /// the lock back; a fetch that does asks the next holder. There is one letter at most. It takes no memory.
     pub fn mishap(
         &mut self,
         epoch: EpochId,
         ticket: Ticket,
         kind: MishapKind,
         at: NodeNo,
-    ) -> Result<Option<Letter>, AllocError>
-        ensures ok { IfOk result (λ letter. Befalls epoch ticket (kind_of_mishap kind) at (listed letter) self.old self.new) }
-        ensures err { OnErr result (reads_in self.new ≡ reads_in self.old) }
+    ) -> Option<Letter>
+        ensures did { Befalls epoch ticket (kind_of_mishap kind) at (listed result) self.old self.new }
         ensures whose { IsOf self.old.own self.old.boot self.new }
     {
         if !self.is_own(ticket) {
-            return Ok(None);
+            return None;
         }
         let u = Under {
             own: self.own,
