@@ -118,7 +118,7 @@ module _ (confirm nodes : ℕ) (w : Cluster) (s : Sound confirm w) (few : nodes 
     disk : one.disk ≡ slot.disk
 
   seen_at : (m : ℕ) (slot : login.Slot) → login.slot_at (reads_of w).slots m ≡ Some slot → Seen m slot
-  seen_at m slot at = let r = read_back w.slots m slot at in record { one = r.0; here = r.1; disk = ap (λ (x : login.Slot). x.disk) r.2 }
+  seen_at m slot at = let r = read_back w.tells w.slots m slot at in record { one = r.0; here = r.1; disk = ap (λ (x : login.Slot). x.disk) r.2 }
 
   -- what one member says to be gone all do
   gone_to : GoneIsForAll nodes w.slots → (user : List ℕ) (a b : ℕ) → has members a ≡ true → has members b ≡ true → (one other : Slot) → slot_at w.slots a ≡ Some one → slot_at w.slots b ≡ Some other → (id : Id)
@@ -190,7 +190,7 @@ module _ (confirm nodes : ℕ) (w : Cluster) (s : Sound confirm w) (few : nodes 
           let seen = maps_back wholes m slot e in
           let one = whole_back w.slots m seen.0 seen.1 in
           let disk : whole.maps_slot (whole_slot one.0) ≡ slot = ap whole.maps_slot one.2 ∙ seen.2 in
-          (read_slot one.0, read_here w.slots m one.0 one.1, held_back user one.0.disk one.0.disk (ap (λ (x : maps.Slot). x.disk.holds user) disk ∙ k))
+          (read_slot w.tells one.0, read_here w.tells w.slots m one.0 one.1, held_back user one.0.disk one.0.disk (ap (λ (x : maps.Slot). x.disk.holds user) disk ∙ k))
 
   -- the manager names exactly the members that hold a copy
   pub names : (n : ℕ) (proxy : Node) (disk : List Record) → slot_at w.slots n ≡ Some (slot_up proxy disk) → proxy.whole.maps.installed ≡ Some g → (user : List ℕ) (manager : ℕ) → maps.manager_of g user ≡ Some manager
@@ -208,9 +208,9 @@ module _ (confirm nodes : ℕ) (w : Cluster) (s : Sound confirm w) (few : nodes 
       let is : user_named_in up.node.whole.maps user up.node.whole.maps.installed ≡ nodes_as_set (fragments (map whole.maps_slot wholes) user g.members) =
       ap (λ o. user_named_in up.node.whole.maps user o) up.installed ∙ ap nodes_as_set (subst (λ (x : maps.Node). named x user g.members ≡ fragments (map whole.maps_slot wholes) user g.members) same_node nf.same) in
       record {
-        node = read_node up.node;
+        node = read_node w.tells up.node;
         disk = up.disk;
-        here = read_here w.slots manager (slot_up up.node up.disk) up.here;
+        here = read_here w.tells w.slots manager (slot_up up.node up.disk) up.here;
         members_only = λ m h.
             let f = fragment_is (map whole.maps_slot wholes) user g.members m (set_has (fragments (map whole.maps_slot wholes) user g.members) m (subst (λ k. has k m ≡ true) is h)) in
             let q = plan f.0 f.1 in
@@ -235,6 +235,6 @@ module _ (confirm nodes : ℕ) (w : Cluster) (s : Sound confirm w) (few : nodes 
   pub lists : GoneIsForAll nodes w.slots → (number : Number) (login_ : Login) (items : List LoginItem) → ListsItems (reads_of w) number login_ items → IsFreshLogin (reads_of w) number login_.user
       → (proxy : Node) (disk : List Record) → slot_at w.slots number.node ≡ Some (slot_up proxy disk) → proxy.whole.maps.installed ≡ Some g
       → (manager : ℕ) → maps.manager_of g login_.user ≡ Some manager → ListsStanding (reads_of w).slots members login_.user items
-  lists all number login_ items l fresh proxy disk at installed manager managed = fresh_lists (reads_of w) s.reads number login_ items l fresh (read_node proxy) disk
-      (read_here w.slots number.node (slot_up proxy disk) at) manager (ap (λ o. user_manager_in login_.user o) installed ∙ managed) members
+  lists all number login_ items l fresh proxy disk at installed manager managed = fresh_lists (reads_of w) s.reads number login_ items l fresh (read_node w.tells proxy) disk
+      (read_here w.tells w.slots number.node (slot_up proxy disk) at) manager (ap (λ o. user_manager_in login_.user o) installed ∙ managed) members
       (names number.node proxy disk at installed login_.user manager managed) (agrees all login_.user)

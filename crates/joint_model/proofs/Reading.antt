@@ -20,6 +20,7 @@ use Rattle.whole_model.specs.Moves as whole_moves
 use Rattle.whole_model.specs.Rules.{IsMail, IsMailBody}
 use Rattle.whole_model.proofs.Leading.{messages_led}
 use Rattle.login_model.specs.Cluster as login
+use Rattle.login_model.specs.Locks.{Held}
 use Rattle.login_model.specs.Rules as login_rules
 use Rattle.login_model.specs.Facts.{IsReadBody, GoesOut}
 use Rattle.login_model.specs.Moves as login_moves
@@ -31,17 +32,17 @@ use Rattle.joint_model.specs.Laws.{with_reaction, ChangesTicketsAlone}
 use Rattle.joint_model.proofs.Kept.{whole_here}
 
 -- what letters of calls that read say of messages: nothing
-record SaysNothing (to : ℕ) (body : Body) : Type 0 where
-  holds : (id : Id) (octets : List ℕ) → BodyHolds body id octets → ⊥
-  file : (id : Id) (stamp : Stamp) (targets : ℕ) (users : List (List ℕ)) (octets : List ℕ) → body ≡ File id stamp targets users octets → ⊥
-  filed : (id : Id) → body ≡ Filed id → ⊥
-  claims : (from m : ℕ) (fact : Fact) → BodyClaims from body m fact → ⊥
-  speaks : (user : List ℕ) (id : Id) → BodySpeaks body user id → ⊥
-  fit : BodyFits to body
-  asks : (asked : AskedOfNodes) → Asks body asked → ⊥
-  tells : (asked : AskedOfNodes) → Tells body asked → ⊥
+pub record SaysNothing (to : ℕ) (body : Body) : Type 0 where
+  pub holds : (id : Id) (octets : List ℕ) → BodyHolds body id octets → ⊥
+  pub file : (id : Id) (stamp : Stamp) (targets : ℕ) (users : List (List ℕ)) (octets : List ℕ) → body ≡ File id stamp targets users octets → ⊥
+  pub filed : (id : Id) → body ≡ Filed id → ⊥
+  pub claims : (from m : ℕ) (fact : Fact) → BodyClaims from body m fact → ⊥
+  pub speaks : (user : List ℕ) (id : Id) → BodySpeaks body user id → ⊥
+  pub fit : BodyFits to body
+  pub asks : (asked : AskedOfNodes) → Asks body asked → ⊥
+  pub tells : (asked : AskedOfNodes) → Tells body asked → ⊥
 
-says_nothing : (to : ℕ) (body : Body) → IsReadBody body → SaysNothing to body
+pub says_nothing : (to : ℕ) (body : Body) → IsReadBody body → SaysNothing to body
 says_nothing to (LoginAsk user proof) of = record { holds = λ id o h. h; file = λ id s t u o e. cc; filed = λ id e. cc; claims = λ f m fact c. c; speaks = λ u id s. s; fit = tt; asks = λ a k. k; tells = λ a k. k }
 says_nothing to (LoginTold word) of = record { holds = λ id o h. h; file = λ id s t u o e. cc; filed = λ id e. cc; claims = λ f m fact c. c; speaks = λ u id s. s; fit = tt; asks = λ a k. k; tells = λ a k. k }
 says_nothing to (ListAsk user) of = record { holds = λ id o h. h; file = λ id s t u o e. cc; filed = λ id e. cc; claims = λ f m fact c. c; speaks = λ u id s. s; fit = tt; asks = λ a k. k; tells = λ a k. k }
@@ -88,22 +89,22 @@ mail_body (FetchTold part) of = tt
 mail_body (Unlock user login_) of = tt
 mail_body body of = absurd of
 
-is_mail : (own : ℕ) (letter : Letter) → GoesOut own letter → IsMail own letter
+pub is_mail : (own : ℕ) (letter : Letter) → GoesOut own letter → IsMail own letter
 is_mail own letter g = record { from = g.from; to = g.to; body = mail_body letter.body g.body }
 
-module _ (own : ℕ) (node : Node) (disk : List Record) (did : login_rules.Reaction) (heard : Option Letter) (w : Cluster) (here : slot_at w.slots own ≡ Some (slot_up node disk))
-    (flew : (letter : Letter) → heard ≡ Some letter → IsReadBody letter.body × Among letter w.flying × (letter.to ≡ own)) (same : ChangesTicketsAlone (read_node node) did.node)
+module _ (own : ℕ) (node : Node) (disk : List Record) (did : login_rules.Reaction) (locks : Held) (heard : Option Letter) (w : Cluster) (here : slot_at w.slots own ≡ Some (slot_up node disk))
+    (flew : (letter : Letter) → heard ≡ Some letter → IsReadBody letter.body × Among letter w.flying × (letter.to ≡ own)) (same : ChangesTicketsAlone (read_node w.tells node) did.node)
     (goes : (letter : Letter) → Among letter did.out → GoesOut own letter)
-    (acts : login_moves.IsReady own (login.slot_up (read_node node) disk) heard → login_moves.IsAct (login_laws.act_of own (read_node node) disk did heard)) where
+    (acts : login_moves.IsReady own (login.slot_up (read_node w.tells node) disk) heard → login_moves.IsAct (login_laws.act_of own (read_node w.tells node) disk did heard)) where
   abbrev new : Node
-  new = with_reaction node did
+  new = with_reaction node did locks
 
   led : whole_moves.LeadsMaps own (whole.maps_slot (record { life = whole.Life.Up node.whole; disk = disk })) (whole.maps_slot (record { life = whole.Life.Up new.whole; disk = disk })) heard did.out
   led = subst (λ d. whole_moves.LeadsMaps own (whole.maps_slot (record { life = whole.Life.Up node.whole; disk = disk })) (whole.maps_slot (record { life = whole.Life.Up new.whole; disk = d })) heard did.out) (append-nil disk)
       (messages_led own node.whole new.whole disk [] heard did.out (λ one m. absurd m) (λ letter m. is_mail own letter (goes letter m)) refl)
 
-  seen : read_node new ≡ did.node
-  seen = λ i. record { boot = sym same.boot i; calls = did.node.calls; epoch = sym same.epoch i; manager = sym same.manager i; named = sym same.named i; reads = did.node.reads }
+  seen : read_node w.tells new ≡ did.node
+  seen = λ i. record { boot = sym same.boot i; calls = did.node.calls; epoch = sym same.epoch i; manager = sym same.manager i; named = sym same.named i; reads = did.node.reads; tells = sym same.tells i }
 
   pub may_read : MayAct (record { node = own; before = slot_up node disk; after = slot_up new disk; heard = heard; out = did.out; files = None; strikes = [] }) w
   may_read = record {
@@ -115,20 +116,20 @@ module _ (own : ℕ) (node : Node) (disk : List Record) (did : login_rules.React
       heard = λ letter e. ((flew letter e).1, (flew letter e).2);
       struck = λ user id m. absurd m;
     };
-    reads = λ ready. subst (λ (n : login.Node). login_moves.IsAct (record { node = own; before = login.slot_up (read_node node) disk; after = login.slot_up n disk; heard = heard; out = did.out })) (sym seen) (acts ready);
+    reads = λ ready. subst (λ (n : login.Node). login_moves.IsAct (record { node = own; before = login.slot_up (read_node w.tells node) disk; after = login.slot_up n disk; heard = heard; out = did.out })) (sym seen) (acts ready);
   }
 
 -- all else leaves the tickets of calls that read
-pub may_do_other : (own : ℕ) (node : Node) (new : whole.Node) (disk after : List Record) (act : whole_moves.NodeAct) (w : Cluster) → slot_at w.slots own ≡ Some (slot_up node disk)
+pub may_do_other : (own : ℕ) (node : Node) (new : whole.Node) (locks : Held) (disk after : List Record) (act : whole_moves.NodeAct) (w : Cluster) → slot_at w.slots own ≡ Some (slot_up node disk)
     → act.node ≡ own → act.before ≡ record { life = whole.Life.Up node.whole; disk = disk } → act.after ≡ record { life = whole.Life.Up new; disk = after }
     → new.mail.boot ≡ node.whole.mail.boot → node.whole.mail.calls ≤ new.mail.calls → boot_of after ≡ boot_of disk
     → ((letter : Letter) → act.heard ≡ Some letter → login_laws.IsOtherLetter letter) → ((letter : Letter) → Among letter act.out → login_laws.IsOtherLetter letter)
     → whole_moves.MayAct act (whole_of w)
-    → MayAct (record { node = own; before = slot_up node disk; after = slot_up (record { whole = new; reads = node.reads }) after; heard = act.heard; out = act.out; files = act.files; strikes = act.strikes }) w
-may_do_other own node new disk after act w here at before behind boot calls boots of_heard of_out may = record {
+    → MayAct (record { node = own; before = slot_up node disk; after = slot_up (record { whole = new; reads = node.reads; locks = locks }) after; heard = act.heard; out = act.out; files = act.files; strikes = act.strikes }) w
+may_do_other own node new locks disk after act w here at before behind boot calls boots of_heard of_out may = record {
   here = here;
   whole = subst (λ (a : whole_moves.NodeAct). whole_moves.MayAct a (whole_of w)) is may;
-  reads = λ ready. (other_acts own (read_node node) (read_node (record { whole = new; reads = node.reads })) disk after act.heard act.out boot calls refl boots of_heard of_out ready).is;
+  reads = λ ready. (other_acts own (read_node w.tells node) (read_node w.tells (record { whole = new; reads = node.reads; locks = locks })) disk after act.heard act.out boot calls refl boots of_heard of_out ready).is;
 }
   where
     is : act ≡ record { node = own; before = record { life = whole.Life.Up node.whole; disk = disk }; after = record { life = whole.Life.Up new; disk = after }; heard = act.heard; out = act.out; files = act.files; strikes = act.strikes }

@@ -37,9 +37,9 @@ get_back f [] k y e = absurd (cc e)
 get_back f (x ∷ xs) zero y e = (x, refl, some_is (f x) y e)
 get_back f (x ∷ xs) (suc k) y e = get_back f xs k y e
 
-pub read_back : (slots : List Slot) (n : ℕ) (slot : login.Slot) → login.slot_at (map read_slot slots) n ≡ Some slot → (one : Slot) × (slot_at slots n ≡ Some one) × (read_slot one ≡ slot)
-read_back slots zero slot e = absurd (cc e)
-read_back slots (suc k) slot e = get_back read_slot slots k slot e
+pub read_back : (tells : Bool) (slots : List Slot) (n : ℕ) (slot : login.Slot) → login.slot_at (map (read_slot tells) slots) n ≡ Some slot → (one : Slot) × (slot_at slots n ≡ Some one) × (read_slot tells one ≡ slot)
+read_back tells slots zero slot e = absurd (cc e)
+read_back tells slots (suc k) slot e = get_back (read_slot tells) slots k slot e
 
 pub whole_back : (slots : List Slot) (n : ℕ) (slot : whole.Slot) → whole.slot_at (map whole_slot slots) n ≡ Some slot → (one : Slot) × (slot_at slots n ≡ Some one) × (whole_slot one ≡ slot)
 whole_back slots zero slot e = absurd (cc e)

@@ -13,6 +13,7 @@ use Rattle.maps_model.specs.Cluster as maps
 use Rattle.maps_model.specs.Laws.{IsEpochSettled}
 use Rattle.whole_model.specs.Whole as whole
 use Rattle.login_model.specs.Cluster as login
+use Rattle.login_model.specs.Locks.{Held}
 use Rattle.login_model.specs.Rules as login_rules
 use Rattle.login_model.specs.Readings.{Login}
 use Rattle.login_model.specs.Facts.{IsDrawn}
@@ -56,15 +57,15 @@ up_same a b x y e = life (ap (λ (s : Slot). s.life) e)
     life p = cc
 
 -- one such act
-module _ (w : Cluster) (act : NodeAct) (here : slot_at w.slots act.node ≡ Some act.before) (node : Node) (disk : List Record) (did : login_rules.Reaction)
-    (before : act.before ≡ slot_up node disk) (after : act.after ≡ slot_up (with_reaction node did) disk) where
+module _ (w : Cluster) (act : NodeAct) (here : slot_at w.slots act.node ≡ Some act.before) (node : Node) (disk : List Record) (did : login_rules.Reaction) (locks : Held)
+    (before : act.before ≡ slot_up node disk) (after : act.after ≡ slot_up (with_reaction node did locks) disk) where
   settled_acted : (g : Membership) → IsSettled w g → IsSettled (after_move (Acted act) w) g
   settled_acted g s = record {
     quiet = subst (λ slots. IsEpochSettled slots g) (sym (maps_view w.slots act.node act.before act.after here
         (ap (λ (x : Slot). whole.maps_slot (whole_slot x)) after ∙ sym (ap (λ (x : Slot). whole.maps_slot (whole_slot x)) before)))) s.quiet;
     logs = λ a b ha hb apart other its at key entry h. ⊎_elim
         (λ (same, is).
-        let nodes : other ≡ with_reaction node did = up_same other (with_reaction node did) its disk (is ∙ after) in
+        let nodes : other ≡ with_reaction node did locks = up_same other (with_reaction node did locks) its disk (is ∙ after) in
         s.logs a b ha hb apart node disk (subst (λ k. slot_at w.slots k ≡ Some (slot_up node disk)) (sym same) (here ∙ ap Some before)) key entry
         (subst (λ (x : Node). fin.get x.whole.mail.log key ≡ Some entry) nodes h))
         (λ old. s.logs a b ha hb apart other its old key entry h)
@@ -79,16 +80,16 @@ module _ (w : Cluster) (act : NodeAct) (here : slot_at w.slots act.node ≡ Some
       (λ old. all n slot old user id state says gone m some le)
       (read_after w.slots act.node n act.before act.after slot here at)
 
-  still_acted : AreStill (map read_slot w.slots) (map read_slot (with_slot w.slots act.node act.after))
-  still_acted = subst (AreStill (map read_slot w.slots)) (sym (read_set w.slots act.node act.after))
-      (act_still (map read_slot w.slots) act.node (read_slot act.before) (read_slot act.after) (read_here w.slots act.node act.before here) (subst (λ (x : Slot). IsStillSlot (read_slot x) (read_slot act.after)) (sym before)
-      (subst (λ (x : Slot). IsStillSlot (read_slot (slot_up node disk)) (read_slot x)) (sym after) (record {
+  still_acted : AreStill (map (read_slot w.tells) w.slots) (map (read_slot w.tells) (with_slot w.slots act.node act.after))
+  still_acted = subst (AreStill (map (read_slot w.tells) w.slots)) (sym (read_set w.tells w.slots act.node act.after))
+      (act_still (map (read_slot w.tells) w.slots) act.node (read_slot w.tells act.before) (read_slot w.tells act.after) (read_here w.tells w.slots act.node act.before here) (subst (λ (x : Slot). IsStillSlot (read_slot w.tells x) (read_slot w.tells act.after)) (sym before)
+      (subst (λ (x : Slot). IsStillSlot (read_slot w.tells (slot_up node disk)) (read_slot w.tells x)) (sym after) (record {
         disk = refl;
         maps = λ old new a b.
-            let x = same_up (read_node node) old a in
-            let y = same_up (read_node (with_reaction node did)) new b in
+            let x = same_up (read_node w.tells node) old a in
+            let y = same_up (read_node w.tells (with_reaction node did locks)) new b in
             (sym (ap (λ (k : login.Node). k.named) x) ∙ ap (λ (k : login.Node). k.named) y, sym (ap (λ (k : login.Node). k.manager) x) ∙ ap (λ (k : login.Node). k.manager) y);
-        up = λ old a. (read_node (with_reaction node did), refl);
+        up = λ old a. (read_node w.tells (with_reaction node did locks), refl);
       }))))
 
 module _ (confirm : ℕ) where
@@ -96,7 +97,7 @@ module _ (confirm : ℕ) where
   settled_stays w [] g may all s = s
   settled_stays w (Acted act ∷ moves) g may all s =
       let r = All-head IsReadingMove (Acted act) moves all in
-      settled_stays (after_move (Acted act) w) moves g may.1 (All-tail IsReadingMove (Acted act) moves all) (settled_acted w act may.0.here r.0 r.1 r.2 r.3 r.4 g s)
+      settled_stays (after_move (Acted act) w) moves g may.1 (All-tail IsReadingMove (Acted act) moves all) (settled_acted w act may.0.here r.0 r.1 r.2 r.3 r.4 r.5 g s)
   settled_stays w (Taken letter left ∷ moves) g may all s =
       settled_stays (after_move (Taken letter left) w) moves g may.1 (All-tail IsReadingMove (Taken letter left) moves all) (record { quiet = s.quiet; logs = s.logs })
   settled_stays w (Entered entry ∷ moves) g may all s =
@@ -106,7 +107,7 @@ module _ (confirm : ℕ) where
   gone_stays_all nodes w [] may all s = s
   gone_stays_all nodes w (Acted act ∷ moves) may all s =
       let r = All-head IsReadingMove (Acted act) moves all in
-      gone_stays_all nodes (after_move (Acted act) w) moves may.1 (All-tail IsReadingMove (Acted act) moves all) (gone_acted w act may.0.here r.0 r.1 r.2 r.3 r.4 nodes s)
+      gone_stays_all nodes (after_move (Acted act) w) moves may.1 (All-tail IsReadingMove (Acted act) moves all) (gone_acted w act may.0.here r.0 r.1 r.2 r.3 r.4 r.5 nodes s)
   gone_stays_all nodes w (Taken letter left ∷ moves) may all s = gone_stays_all nodes (after_move (Taken letter left) w) moves may.1 (All-tail IsReadingMove (Taken letter left) moves all) s
   gone_stays_all nodes w (Entered entry ∷ moves) may all s = gone_stays_all nodes (after_move (Entered entry) w) moves may.1 (All-tail IsReadingMove (Entered entry) moves all) s
 
@@ -116,7 +117,7 @@ module _ (confirm : ℕ) where
   since_all old w (Acted act ∷ moves) may all s =
       let r = All-head IsReadingMove (Acted act) moves all in
       since_all old (after_move (Acted act) w) moves may.1 (All-tail IsReadingMove (Acted act) moves all)
-      (since_more old w.story (map read_slot w.slots) (map read_slot (with_slot w.slots act.node act.after)) s (still_acted w act may.0.here r.0 r.1 r.2 r.3 r.4))
+      (since_more old w.story (map (read_slot w.tells) w.slots) (map (read_slot w.tells) (with_slot w.slots act.node act.after)) s (still_acted w act may.0.here r.0 r.1 r.2 r.3 r.4 r.5))
   since_all old w (Taken letter left ∷ moves) may all s = since_all old (after_move (Taken letter left) w) moves may.1 (All-tail IsReadingMove (Taken letter left) moves all) s
   since_all old w (Entered entry ∷ moves) may all s = since_all old (after_move (Entered entry) w) moves may.1 (All-tail IsReadingMove (Entered entry) moves all) s
 

@@ -17,6 +17,7 @@ use Rattle.whole_model.specs.Whole as whole
 use Rattle.login_model.specs.Readings.{Login}
 use Rattle.login_model.specs.Listing.{LoginItem, ListsItems, IsFreshLogin, NamesHolders, ListsStanding}
 use Rattle.joint_model.specs.Joint.{Node, Slot, Cluster, slot_at, slot_up, whole_of, reads_of}
+use Rattle.login_model.specs.Locks.{Held}
 use Rattle.login_model.specs.Rules as login_rules
 use Rattle.login_model.specs.Facts.{IsDrawn}
 use Rattle.joint_model.specs.Moves.{Move, after_moves, MayMoves, Sound}
@@ -45,9 +46,9 @@ FreshListsStanding = (confirm nodes : ℕ) (w : Cluster) → Sound confirm w →
     → (manager : ℕ) → maps.manager_of membership login.user ≡ Some manager
     → ListsStanding (reads_of w).slots (set_of_members membership.members) login.user items
 
--- a move that changes at most tickets of calls that read
+-- a move that changes at most tickets of calls that read, and locks
 abbrev pub IsReadingMove : Move → Type 0
-IsReadingMove (Acted act) = (node : Node) × (disk : List Record) × (did : login_rules.Reaction) × (act.before ≡ slot_up node disk) × (act.after ≡ slot_up (with_reaction node did) disk)
+IsReadingMove (Acted act) = (node : Node) × (disk : List Record) × (did : login_rules.Reaction) × (locks : Held) × (act.before ≡ slot_up node disk) × (act.after ≡ slot_up (with_reaction node did locks) disk)
 IsReadingMove (Taken letter left) = Unit {0}
 IsReadingMove (Entered entry) = Unit {0}
 

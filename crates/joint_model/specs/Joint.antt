@@ -1,5 +1,5 @@
 -- A cluster with all that its nodes do: messages, membership and mail maps as a whole, and calls that read beside them, over the same disks and letters.
-use Rattle.std.specs.Prelude.{ℕ, zero, suc, List, [], ◌∷◌, map, Option, Some, None, slice_get, slice_set}
+use Rattle.std.specs.Prelude.{ℕ, zero, suc, Bool, List, [], ◌∷◌, map, Option, Some, None, slice_get, slice_set}
 use Rattle.mail_model.specs.Record.{Record}
 use Rattle.mail_model.specs.Book.{BookEntry}
 use Rattle.object_model.specs.Sets.{with_node}
@@ -8,12 +8,14 @@ use Rattle.maps_model.specs.Cluster as maps
 use Rattle.maps_model.specs.Laws.{named}
 use Rattle.whole_model.specs.Whole as whole
 use Rattle.login_model.specs.Readings.{Reads}
+use Rattle.login_model.specs.Locks.{Held}
 use Rattle.login_model.specs.Cluster as login
 
--- the soft state of a node: for messages, membership and maps, and its tickets of calls that read
+-- the soft state of a node: for messages, membership and maps, its tickets of calls that read, and the locks of the maildrops that it manages
 pub record Node : Type 0 where
   pub whole : whole.Node
   pub reads : Reads
+  pub locks : Held
 
 pub data Life : Type 0 where
   Up : (node : Node) → Life
@@ -24,7 +26,9 @@ pub record Slot : Type 0 where
   pub life : Life
   pub disk : List Record
 
+-- Whether disks tell the octets that they hold is one fact of the whole cluster.
 pub record Cluster : Type 0 where
+  pub tells : Bool
   pub slots : List Slot
   pub flying : List Letter
   pub book : List BookEntry
@@ -56,27 +60,28 @@ abbrev pub user_manager_in : List ℕ → Option Membership → Option ℕ
 user_manager_in user None = None
 user_manager_in user (Some membership) = maps.manager_of membership user
 
--- What calls that read see.
-abbrev pub read_node : Node → login.Node
-read_node node = record {
+-- What calls that read see. Locks they do not.
+abbrev pub read_node : Bool → Node → login.Node
+read_node tells node = record {
   boot = node.whole.mail.boot;
   calls = node.whole.mail.calls;
   epoch = maps.epoch_of node.whole.maps;
   manager = λ user. user_manager_in user node.whole.maps.installed;
   named = λ user. user_named_in node.whole.maps user node.whole.maps.installed;
   reads = node.reads;
+  tells = tells;
 }
 
-abbrev pub read_life : Life → login.Life
-read_life (Up node) = login.Life.Up (read_node node)
-read_life (Down pending) = login.Life.Down
-read_life Lost = login.Life.Lost
+abbrev pub read_life : Bool → Life → login.Life
+read_life tells (Up node) = login.Life.Up (read_node tells node)
+read_life tells (Down pending) = login.Life.Down
+read_life tells Lost = login.Life.Lost
 
-abbrev pub read_slot : Slot → login.Slot
-read_slot slot = record { life = read_life slot.life; disk = slot.disk }
+abbrev pub read_slot : Bool → Slot → login.Slot
+read_slot tells slot = record { life = read_life tells slot.life; disk = slot.disk }
 
 abbrev pub reads_of : Cluster → login.Cluster
-reads_of w = record { slots = map read_slot w.slots; flying = w.flying; story = w.story }
+reads_of w = record { slots = map (read_slot w.tells) w.slots; flying = w.flying; story = w.story }
 
 -- the slot of node n, numbered from 1
 abbrev pub slot_at : List Slot → ℕ → Option Slot

@@ -17,7 +17,7 @@ pub fn reading_may_act()
     ensures { ReadingMayAct }
 {}
 
-/// What a node does otherwise may be done in the cluster, where the tickets of calls that read stay.
+/// What a node does otherwise may be done in the cluster, where the tickets of calls that read stay; locks may be let go.
 pub fn others_may_act()
     ensures { OthersMayAct }
 {}

@@ -1,8 +1,8 @@
 -- A call that reads begins, and a ticket has a mishap or ends: these are acts.
-use Rattle.std.proofs.Common.{◌≡◌, ◌⊎◌, inl, ⊎_elim, ◌≤◌, ℕ, ◌+◌, Bool, true, false, List, [], ◌∷◌, Option, Some, None, refl, sym, ap, ◌∙◌, subst, arith, if◌then◌else◌, nat_eq, le_refl}
+use Rattle.std.proofs.Common.{◌≡◌, ◌⊎◌, inl, inr, ⊎_elim, ◌≤◌, ◌<◌, ℕ, ◌+◌, ◌-◌, ◌^◌, Bool, true, false, true≢false, nat_lt, List, [], ◌∷◌, Option, Some, None, refl, sym, ap, ◌∙◌, subst, arith, if◌then◌else◌, nat_eq, le_refl}
 use Rattle.std.specs.FinMap as map
 use Rattle.std.specs.Cmp.{nat_cmp_total}
-use Rattle.std.proofs.lemmas.Bool.{eqb-true}
+use Rattle.std.proofs.lemmas.Bool.{eqb-true, ltb-false}
 use Rattle.std.proofs.lemmas.Map.Lookups.{exact_unsigned}
 use Rattle.mail_model.specs.Identity.{Id}
 use Rattle.mail_model.specs.Plan.{Plan, Proof, proves}
@@ -10,7 +10,8 @@ use Rattle.mail_model.specs.Record.{Record}
 use Rattle.object_model.specs.Sets.{has, without_node}
 use Rattle.cluster_model.specs.Rules.{receivers}
 use Rattle.object_model.specs.Lists.{Among}
-use Rattle.object_model.specs.Mishaps.{MishapKind, no_mishaps, counted}
+use Rattle.object_model.specs.Mishaps.{MishapKind, Mishaps, no_mishaps, one_more, counted, mishaps_of}
+use Rattle.object_model.specs.Mishaps.MishapKind.{FewMembers, Year, Dropped, Stale, Down, Disk, Crowded}
 use Rattle.object_model.specs.Letters.{Number, LoginWord, ToldItem, ToldPart, Letter}
 use Rattle.object_model.specs.Letters.LoginWord.{Named, Wrong, InUse, NoProfile}
 use Rattle.object_model.specs.Letters.Body.{LoginAsk, Unlock}
@@ -22,13 +23,14 @@ use Rattle.login_model.specs.Readings.Reading.{LogsIn, Fetches}
 use Rattle.login_model.specs.Readings.Subject.{OfUser}
 use Rattle.login_model.specs.Cluster.{Node, Life, slot_up}
 use Rattle.login_model.specs.Cluster.Life.{Up}
-use Rattle.login_model.specs.Rules.{ReadDid, same, Under, ask, judge, first_stamp, take_word, ask_first, ask_next, fail, unlock, login_befell, fetch_befell, befell, befell_at, mishap, begin_login, begin_fetch, begin_read, end_read, give_up, given_up, give_up_read, leave, read_at, under, next_number, with_reading}
-use Rattle.login_model.specs.Facts.{Fact, SlotShows, IsToldList, IsToldPart, subject_asked, is_told, AnswerAwaited, ReadingWaits, Covers, Covered, LifeWaits}
+use Rattle.login_model.specs.Rules.{ReadDid, same, Under, ask, judge, IsWordOf, first_stamp, take_word, ask_first, ask_next, fail, unlock, login_befell, fetch_befell, befell, befell_at, mishap, begin_login, begin_fetch, begin_read, end_read, give_up, given_up, give_up_read, leave, read_at, under, next_number, with_reading}
+use Rattle.login_model.specs.Facts.{Fact, SlotShows, IsToldList, IsToldPart, subject_asked, is_told, has_failed, AnswerAwaited, ReadingWaits, Covers, Covered, LifeWaits}
 use Rattle.login_model.specs.Facts.Fact.{Manages, Names, Lists}
 use Rattle.login_model.specs.Facts.AnswerAwaited.{ForWord, ForList, ForPart}
 use Rattle.login_model.specs.Moves.{AsksOwn, IsReady, IsCallDone}
-use Rattle.login_model.specs.NodeLaws.{act_of}
-use Rattle.login_model.proofs.Steps.{SentFor, ReadStep, ReadStart, same_step, named_claims, named_whole, named_waits, named_sent, holder_step, fail_step}
+use Rattle.login_model.specs.NodeLaws.{act_of, HasHolder}
+use Rattle.cluster_model.proofs.BeginDeliver.{receiver_among}
+use Rattle.login_model.proofs.Steps.{few, SentFor, ReadStep, ReadStart, same_step, named_claims, named_whole, named_waits, named_sent, holder_step, fail_step}
 use Rattle.login_model.proofs.Reacts.{Backs, TicketFrom, is_act, changes_act}
 use Rattle.login_model.proofs.Reacts.TicketFrom.{Stays, Begins}
 use Rattle.login_model.proofs.Hears.{ReadHere, read_here, same_number}
@@ -50,7 +52,7 @@ module _ (own : ℕ) (node : Node) (disk : List Record) (did : ReadDid) (ready :
     tickets : (seq : ℕ) (ticket : ReadTicket) → map.get (map.insert node.reads (node.calls + 1) first) seq ≡ Some ticket → TicketFrom own node new disk disk None did.out seq ticket
     tickets seq ticket h = ⊎_elim
         (λ (same, is). subst (λ (t : ReadTicket). TicketFrom own node new disk disk None did.out seq t) (sym is)
-        (subst (λ k. TicketFrom own node new disk disk None did.out k first) (sym same) (Begins (omega arith) (le_refl (node.calls + 1)) start.claims start.whole start.waits)))
+        (subst (λ k. TicketFrom own node new disk disk None did.out k first) (sym same) (Begins (omega arith) (le_refl (node.calls + 1)) start.claims start.whole (λ failed. absurd (start.fine failed)) start.waits)))
         (λ (apart, old). Stays old)
         (found nat_cmp_total exact_unsigned node.reads (node.calls + 1) first seq ticket h)
 
@@ -78,8 +80,8 @@ module _ (own : ℕ) (node : Node) (disk : List Record) (did : ReadDid) (ready :
     begins_act = is_act own node new disk disk None did.out ready refl (omega arith) refl tickets asks (λ letter m told. absurd ((start.sent letter m).untold told)) (unheard own did.out (Up new))
 
 -- a login begins
-module _ (plan : Plan) (own : ℕ) (node : Node) (disk : List Record) (user : List ℕ) (proof : Proof) (manager : ℕ) (mine : List ToldItem) (managed : node.manager user ≡ Some manager)
-    (lists : (named : ℕ) → judge plan node user proof ≡ Named named → has named own ≡ true → IsToldList user disk mine) (ready : IsReady own (slot_up node disk) None) where
+module _ (plan : Plan) (own : ℕ) (node : Node) (disk : List Record) (user : List ℕ) (proof : Proof) (manager : ℕ) (word : LoginWord) (mine : List ToldItem) (managed : node.manager user ≡ Some manager)
+    (of : manager ≡ own → IsWordOf plan node user proof word) (lists : (named : ℕ) → manager ≡ own → word ≡ Named named → has named own ≡ true → IsToldList user disk mine) (ready : IsReady own (slot_up node disk) None) where
   abbrev u : Under
   u = under own node (next_number own node)
 
@@ -92,18 +94,20 @@ module _ (plan : Plan) (own : ℕ) (node : Node) (disk : List Record) (user : Li
   manages : (did : ReadDid) (m : ℕ) (fact : Fact) → m ≡ own → Manages user manager ≡ fact → Shown did m fact
   manages did m fact is e = (is, subst (SlotShows (slot_up (begin_read own node did).node disk)) e (record { node = (begin_read own node did).node; up = refl; shows = managed }))
 
-  denied : (word : LoginWord) → ReadStart u (Shown (same (LogsIn (record login { stage = IsDenied word })))) (same (LogsIn (record login { stage = IsDenied word })))
-  denied word = record {
-    claims = λ m fact c. ⊎_elim (λ (is, e). manages (same (LogsIn (record login { stage = IsDenied word }))) m fact is e) (λ none. absurd none) c;
+  denied : (other : LoginWord) → ReadStart u (Shown (same (LogsIn (record login { stage = IsDenied other })))) (same (LogsIn (record login { stage = IsDenied other })))
+  denied other = record {
+    claims = λ m fact c. ⊎_elim (λ (is, e). manages (same (LogsIn (record login { stage = IsDenied other }))) m fact is e) (λ none. absurd none) c;
     whole = tt;
+    fine = λ e. cc e;
     waits = λ m what w. absurd w;
     sent = λ letter m. absurd m;
   }
 
-  judged : nat_eq manager own ≡ true → (word : LoginWord) → judge plan node user proof ≡ word → ReadStart u (Shown (take_word u login mine word)) (take_word u login mine word)
+  judged : nat_eq manager own ≡ true → (other : LoginWord) → word ≡ other → ReadStart u (Shown (take_word u login mine other)) (take_word u login mine other)
   judged is (Named named) j = record {
     claims = λ m fact c. ⊎_elim (λ (at, e). manages (take_word u login mine (Named named)) m fact at e) (λ b. b) (named_claims u (Shown (take_word u login mine (Named named))) refl login mine named told shown m fact c);
     whole = named_whole u (Shown (take_word u login mine (Named named))) refl login mine named told shown;
+    fine = λ e. cc e;
     waits = named_waits u (Shown (take_word u login mine (Named named))) refl login mine named told shown;
     sent = named_sent u (Shown (take_word u login mine (Named named))) refl login mine named told shown;
   }
@@ -112,11 +116,15 @@ module _ (plan : Plan) (own : ℕ) (node : Node) (disk : List Record) (user : Li
       named_is true e = cc
       named_is false e = absurd (cc e)
 
+      by_proof : IsWordOf plan node user proof (Named named) → node.named user ≡ named
+      by_proof (inl e) = named_is (proves plan user proof) (sym e)
+      by_proof (inr (right, by, e)) = absurd (cc e)
+
       told : Shown (take_word u login mine (Named named)) manager (Names user named)
-      told = (eqb-true manager own is, record { node = (begin_read own node (take_word u login mine (Named named))).node; up = refl; shows = named_is (proves plan user proof) j })
+      told = (eqb-true manager own is, record { node = (begin_read own node (take_word u login mine (Named named))).node; up = refl; shows = by_proof (subst (IsWordOf plan node user proof) j (of (eqb-true manager own is))) })
 
       shown : has named own ≡ true → Shown (take_word u login mine (Named named)) own (Lists user mine)
-      shown h = (refl, record { node = (begin_read own node (take_word u login mine (Named named))).node; up = refl; shows = lists named j h })
+      shown h = (refl, record { node = (begin_read own node (take_word u login mine (Named named))).node; up = refl; shows = lists named (eqb-true manager own is) j h })
   judged is (Wrong stamp) j = denied (Wrong stamp)
   judged is (InUse by) j = denied (InUse by)
   judged is NoProfile j = denied NoProfile
@@ -125,6 +133,7 @@ module _ (plan : Plan) (own : ℕ) (node : Node) (disk : List Record) (user : Li
   asked = record {
     claims = λ m fact c. ⊎_elim (λ (is, e). manages (record { reading = LogsIn login; out = ask u manager (LoginAsk user proof) ∷ [] }) m fact is e) (λ none. absurd none) c;
     whole = tt;
+    fine = λ e. cc e;
     waits = by;
     sent = λ letter m. ⊎_elim (λ is. subst (SentFor u (LogsIn login)) is (record { untold = λ e. cc e; asks = λ subject e. (refl, of_user subject e) })) (λ none. absurd none) m;
   }
@@ -137,16 +146,16 @@ module _ (plan : Plan) (own : ℕ) (node : Node) (disk : List Record) (user : Li
       by m ForList w = absurd w
       by m ForPart w = absurd w
 
-  pub login_acts : IsCallDone (act_of own node disk (begin_read own node (begin_login u user proof manager (judge plan node user proof) mine)) None)
+  pub login_acts : IsCallDone (act_of own node disk (begin_read own node (begin_login u user proof manager word mine)) None)
   login_acts = by (nat_eq manager own) refl
     where
       by : (b : Bool) → nat_eq manager own ≡ b
-          → IsCallDone (act_of own node disk (begin_read own node (if b then take_word u login mine (judge plan node user proof) else record { reading = LogsIn login; out = ask u manager (LoginAsk user proof) ∷ [] })) None)
-      by true e = begins_act own node disk (take_word u login mine (judge plan node user proof)) ready (judged e (judge plan node user proof) refl)
+          → IsCallDone (act_of own node disk (begin_read own node (if b then take_word u login mine word else record { reading = LogsIn login; out = ask u manager (LoginAsk user proof) ∷ [] })) None)
+      by true e = begins_act own node disk (take_word u login mine word) ready (judged e word refl)
       by false e = begins_act own node disk (record { reading = LogsIn login; out = ask u manager (LoginAsk user proof) ∷ [] }) ready asked
 
 -- a fetch begins
-module _ (own : ℕ) (node : Node) (disk : List Record) (user : List ℕ) (id : Id) (at most holders : ℕ) (part : ToldPart) (says : has holders own ≡ true → IsToldPart user id at most disk part)
+module _ (own : ℕ) (node : Node) (disk : List Record) (user : List ℕ) (id : Id) (at most holders : ℕ) (part : ToldPart) (some : HasHolder holders) (says : has holders own ≡ true → IsToldPart node.tells user id at most disk part)
     (ready : IsReady own (slot_up node disk) None) where
   abbrev of : Under
   of = under own node (next_number own node)
@@ -157,12 +166,17 @@ module _ (own : ℕ) (node : Node) (disk : List Record) (user : List ℕ) (id : 
   abbrev Has : ReadDid → ℕ → Fact → Type 0
   Has did m fact = (m ≡ own) × SlotShows (slot_up (begin_read own node did).node disk) fact
 
-  asks_on : (holders : List ℕ) (left : ℕ) → ReadStart of (Has (ask_first of fetch left holders)) (ask_first of fetch left holders)
-  asks_on holders left =
-      let s = holder_step of (Has (ask_first of fetch left holders)) refl fetch left holders in
+  asks_fine : (asked : List ℕ) (left : ℕ) → (asked ≡ [] → ⊥) → has_failed (ask_first of fetch left asked).reading ≡ true → ⊥
+  asks_fine [] left some_ e = some_ refl
+  asks_fine (holder ∷ others) left some_ e = cc e
+
+  asks_on : (asked : List ℕ) (left : ℕ) → (asked ≡ [] → ⊥) → ReadStart of (Has (ask_first of fetch left asked)) (ask_first of fetch left asked)
+  asks_on asked left some_ =
+      let s = holder_step of (Has (ask_first of fetch left asked)) refl fetch left asked in
       record {
         claims = λ m fact c. ⊎_elim (λ none. absurd none) (λ b. b) (s.claims m fact c);
         whole = s.whole tt;
+        fine = asks_fine asked left some_;
         waits = λ m what w. ⊎_elim (λ old. absurd (nothing m what old)) (λ new_. new_) (s.waits m what w);
         sent = s.sent;
       }
@@ -183,10 +197,29 @@ module _ (own : ℕ) (node : Node) (disk : List Record) (user : List ℕ) (id : 
               (record { node = (begin_read own node (same (Fetches (record fetch { stage = IsAnswered own part })))).node; up = refl; shows = says e }),
         );
         whole = tt;
+        fine = λ k. cc k;
         waits = λ m what w. absurd w;
         sent = λ letter m. absurd m;
       })
-      by false e = begins_act own node disk (ask_next of fetch holders) ready (asks_on (receivers own holders 64) holders)
+      by false e = begins_act own node disk (ask_next of fetch holders) ready (asks_on (receivers own holders 64) holders
+          (λ none. subst (Among some.0) none (receiver_among own holders 64 some.0 some.1 (λ same_. true≢false (sym (subst (λ k. has holders k ≡ true) same_ some.1) ∙ e)) (few holders some.0 some.1))))
+
+-- a mishap is counted
+one_more_some : (count : ℕ) → 0 < one_more count
+one_more_some count = by (nat_lt count (2 ^ 64 - 1)) refl
+  where
+    by : (b : Bool) → nat_lt count (2 ^ 64 - 1) ≡ b → 0 < (if b then count + 1 else count)
+    by true e = omega arith
+    by false e = let above = ltb-false count (2 ^ 64 - 1) e in omega (arith, above)
+
+pub counted_some : (kind : MishapKind) (mishaps : Mishaps) → 0 < mishaps_of (counted kind mishaps)
+counted_some FewMembers mishaps = let h = one_more_some mishaps.few_members in omega (arith, h)
+counted_some Year mishaps = let h = one_more_some mishaps.year in omega (arith, h)
+counted_some Dropped mishaps = let h = one_more_some mishaps.dropped in omega (arith, h)
+counted_some Stale mishaps = let h = one_more_some mishaps.stale in omega (arith, h)
+counted_some Down mishaps = let h = one_more_some mishaps.down in omega (arith, h)
+counted_some Disk mishaps = let h = one_more_some mishaps.disk in omega (arith, h)
+counted_some Crowded mishaps = let h = one_more_some mishaps.crowded in omega (arith, h)
 
 -- a mishap
 befell_step : (u : Under) (B : ℕ → Fact → Type 0) → u.own ≡ u.number.node → (at : ℕ) (reading : Reading) → ReadStep u B reading (befell u at reading)
@@ -238,7 +271,7 @@ module _ (own : ℕ) (node : Node) (disk : List Record) (ready : IsReady own (sl
           let is : n ≡ number = λ i. record { node = sym h.at i; boot = sym h.boot i; seq = number.seq } in
           subst (λ (k : Number). IsCallDone (act_of own node disk
           (record { node = with_reading node number.seq (record { reading = (befell (under own node k) at ticket.reading).reading; mishaps = counted kind ticket.mishaps }); out = (befell (under own node k) at ticket.reading).out }) None)) is
-          (changes_act own node disk None number.seq ticket (record { reading = (befell (under own node n) at ticket.reading).reading; mishaps = counted kind ticket.mishaps }) h.here (befell (under own node n) at ticket.reading).out ready
+          (changes_act own node disk None number.seq ticket (record { reading = (befell (under own node n) at ticket.reading).reading; mishaps = counted kind ticket.mishaps }) h.here (befell (under own node n) at ticket.reading).out ready (λ was failed. counted_some kind ticket.mishaps)
           (befell_step (under own node n) (Backs own node (with_reading node number.seq (record { reading = (befell (under own node n) at ticket.reading).reading; mishaps = counted kind ticket.mishaps })) disk disk None
           (befell (under own node n) at ticket.reading).out n (subject_of ticket.reading)) refl at ticket.reading)
           (unheard own (befell (under own node n) at ticket.reading).out

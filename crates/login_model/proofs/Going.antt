@@ -156,7 +156,7 @@ hears_goes plan own node disk letter did to from h one m = by letter.body h
     out_of d is = subst (λ (r : Reaction). Among one r.out) is m
 
     by : (body : Body) → Hears plan own node disk letter body did → GoesOut own one
-    by (LoginAsk user proof) is = answer_goes own node letter (LoginTold _) tt to from one (out_of (answering node letter (LoginTold _)) is)
+    by (LoginAsk user proof) (word, of, is) = answer_goes own node letter (LoginTold word) tt to from one (out_of (answering node letter (LoginTold word)) is)
     by (ListAsk user) (mine, lists, is) = answer_goes own node letter (ListTold mine) tt to from one (out_of (answering node letter (ListTold mine)) is)
     by (FetchAsk user id at most) (part, says, is) = answer_goes own node letter (FetchTold part) tt to from one (out_of (answering node letter (FetchTold part)) is)
     by (LoginTold word) (mine, has_mine, is) = told_goes own node letter mine one (out_of (hear_told own node letter mine) is)

@@ -4,7 +4,7 @@ use Rattle.std.specs.FinMap as map
 use Rattle.std.specs.Cmp.{nat_cmp_total}
 use Rattle.std.proofs.lemmas.Bool.{and_parts, eqb-true, eq-eqb, and_from}
 use Rattle.std.proofs.lemmas.Map.Lookups.{exact_unsigned}
-use Rattle.mail_model.specs.Plan.{Plan, proves}
+use Rattle.mail_model.specs.Plan.{Plan, Proof, proves}
 use Rattle.mail_model.specs.Record.{Record}
 use Rattle.object_model.specs.Sets.{has, without_node}
 use Rattle.object_model.specs.Letters.{Number, LoginWord, ToldItem, ToldPart, Body, Letter}
@@ -21,8 +21,8 @@ use Rattle.login_model.specs.Readings.Reading.{LogsIn, Fetches}
 use Rattle.login_model.specs.Readings.Subject.{OfUser, OfPart}
 use Rattle.login_model.specs.Cluster.{Node, slot_up}
 use Rattle.login_model.specs.Cluster.Life.{Up}
-use Rattle.login_model.specs.Rules.{ReadDid, same, Under, Reaction, idle, answering, judge, first_stamp, hear_for, take_word, word_at, list_at, part_at, told_at, hear_told, read_at, under, with_reading}
-use Rattle.login_model.specs.Facts.{Fact, SlotShows, IsToldList, subject_asked, fact_told, AnswerAwaited, LoginWaits, FetchWaits, ReadingWaits, AsksFor, TellsFor, Covers, Covered, LifeWaits}
+use Rattle.login_model.specs.Rules.{ReadDid, same, Under, Reaction, idle, answering, judge, IsWordOf, first_stamp, hear_for, take_word, word_at, list_at, part_at, told_at, hear_told, read_at, under, with_reading}
+use Rattle.login_model.specs.Facts.{Fact, SlotShows, IsToldList, subject_asked, fact_told, has_failed, AnswerAwaited, LoginWaits, FetchWaits, ReadingWaits, AsksFor, TellsFor, Covers, Covered, LifeWaits}
 use Rattle.login_model.specs.Facts.Fact.{Names, Lists, Says}
 use Rattle.login_model.specs.Facts.AnswerAwaited.{ForWord, ForList, ForPart}
 use Rattle.login_model.specs.Moves.{AnswersHeard, IsReady, IsCallDone}
@@ -97,6 +97,45 @@ heard_settles u from mine (Fetches fetch) (LoginTold word) ForWord t w = no_word
 heard_settles u from mine (Fetches fetch) (ListTold items) ForList t w = no_list fetch.stage from w
 heard_settles u from mine (Fetches fetch) (FetchTold part) ForPart t w = part_settles from fetch part fetch.stage refl w
 heard_settles u from mine reading body what t w = absurd t
+
+-- a call fails by no letter that it hears
+word_fine : (u : Under) (login : Login) (mine : List ToldItem) (word : LoginWord) → has_failed (take_word u login mine word).reading ≡ true → ⊥
+word_fine u login mine (Named named) e = cc e
+word_fine u login mine (Wrong stamp) e = cc e
+word_fine u login mine (InUse by) e = cc e
+word_fine u login mine NoProfile e = cc e
+
+word_failed : (u : Under) (from : ℕ) (login : Login) (mine : List ToldItem) (word : LoginWord) (stage : LoginStage) → has_failed (word_at u from login mine word stage).reading ≡ true → has_failed (LogsIn login) ≡ true
+word_failed u from login mine word AsksManager e = by (nat_eq from login.manager) e
+  where
+    by : (b : Bool) → has_failed (if b then take_word u login mine word else same (LogsIn login)).reading ≡ true → has_failed (LogsIn login) ≡ true
+    by true k = absurd (word_fine u login mine word k)
+    by false k = k
+word_failed u from login mine word (IsDenied other) e = e
+word_failed u from login mine word (AsksNodes named waiting told) e = e
+word_failed u from login mine word HasFailed e = e
+
+list_failed : (from : ℕ) (login : Login) (items : List ToldItem) (stage : LoginStage) → has_failed (list_at from login items stage).reading ≡ true → has_failed (LogsIn login) ≡ true
+list_failed from login items AsksManager e = e
+list_failed from login items (IsDenied other) e = e
+list_failed from login items (AsksNodes named waiting told) e = by (has waiting from) e
+  where
+    by : (b : Bool) → has_failed (if b then same (LogsIn (record login { stage = AsksNodes named (without_node waiting from) (told ++ record { node = from; items = items } ∷ []) })) else same (LogsIn login)).reading ≡ true
+        → has_failed (LogsIn login) ≡ true
+    by true k = absurd (cc k)
+    by false k = k
+list_failed from login items HasFailed e = e
+
+part_failed : (from : ℕ) (fetch : Fetch) (part : ToldPart) (stage : FetchStage) → has_failed (part_at from fetch part stage).reading ≡ true → has_failed (Fetches fetch) ≡ true
+part_failed from fetch part (AsksHolder holder left) e = absurd (cc e)
+part_failed from fetch part (IsAnswered by other) e = e
+part_failed from fetch part NobodyLeft e = absurd (cc e)
+
+heard_failed : (u : Under) (from : ℕ) (mine : List ToldItem) (reading : Reading) (body : Body) → has_failed (hear_for u from mine reading body).reading ≡ true → has_failed reading ≡ true
+heard_failed u from mine (LogsIn login) (LoginTold word) e = word_failed u from login mine word login.stage e
+heard_failed u from mine (LogsIn login) (ListTold items) e = list_failed from login items login.stage e
+heard_failed u from mine (Fetches fetch) (FetchTold part) e = part_failed from fetch part fetch.stage e
+heard_failed u from mine reading body e = e
 
 -- the standing ticket of a number is one of this node in this boot
 pub record ReadHere (own : ℕ) (node : Node) (number : Number) (ticket : ReadTicket) : Type 0 where
@@ -216,6 +255,7 @@ module _ (own : ℕ) (node : Node) (disk : List Record) (letter : Letter) (mine 
 
     told_done : IsCallDone (act_of own node disk (record { node = with_reading node number.seq next; out = did.out }) (Some letter))
     told_done = changes_act own node disk (Some letter) number.seq ticket next h.here did.out ready
+        (λ counted failed. counted (heard_failed u letter.from mine ticket.reading letter.body failed))
         (subst (λ (n : Number). ReadStep (record { own = own; epoch = node.epoch; number = n })
         (Backs own node (with_reading node number.seq next) disk disk (Some letter) did.out n (subject_of ticket.reading)) ticket.reading (record { reading = did.reading; out = did.out }))
         number_is step)
@@ -280,14 +320,21 @@ hears_acts plan own node disk letter did h ready = by letter.body refl h
     judged user true fact e = subst (SlotShows (slot_up node disk)) (some_same (Names user (node.named user)) fact e) (record { node = node; up = refl; shows = refl })
     judged user false fact e = absurd (cc e)
 
+    worded : (user : List ℕ) (proof : Proof) (word : LoginWord) → IsWordOf plan node user proof word → (fact : Fact) → fact_told (LoginTold word) (OfUser user) ≡ Some fact → SlotShows (slot_up node disk) fact
+    worded user proof word (inl is) fact e = judged user (proves plan user proof) fact (subst (λ w. fact_told (LoginTold w) (OfUser user) ≡ Some fact) is e)
+    worded user proof word (inr (right, by_, is)) fact e = absurd (silent (subst (λ w. fact_told (LoginTold w) (OfUser user) ≡ Some fact) is e))
+      where
+        silent : fact_told (LoginTold (InUse by_)) (OfUser user) ≡ Some fact → ⊥
+        silent k = cc k
+
     by : (body : Body) → letter.body ≡ body → Hears plan own node disk letter body did → IsCallDone (act_of own node disk did (Some letter))
-    by (LoginAsk user proof) b is = subst (λ (d : Reaction). IsCallDone (act_of own node disk d (Some letter))) (sym is)
-        (answer_act own node disk letter ready (LoginTold (judge plan node user proof)) (OfUser user) (ap subject_asked b) refl
-        (λ fact e. judged user (proves plan user proof) fact e)
+    by (LoginAsk user proof) b (word, of, is) = subst (λ (d : Reaction). IsCallDone (act_of own node disk d (Some letter))) (sym is)
+        (answer_act own node disk letter ready (LoginTold word) (OfUser user) (ap subject_asked b) refl
+        (λ fact e. worded user proof word of fact e)
         (λ what a. tells what (subst (λ x. AsksFor x what) b a))
         (λ what a. quiet what (subst (λ x. TellsFor x what) b a)))
       where
-        tells : (what : AnswerAwaited) → AsksFor (LoginAsk user proof) what → TellsFor (LoginTold (judge plan node user proof)) what
+        tells : (what : AnswerAwaited) → AsksFor (LoginAsk user proof) what → TellsFor (LoginTold word) what
         tells ForWord a = tt
         tells ForList a = absurd a
         tells ForPart a = absurd a

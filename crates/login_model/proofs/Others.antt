@@ -36,7 +36,7 @@ tells_nothing body AnswerAwaited.ForWord quiet a = a
 tells_nothing body AnswerAwaited.ForList quiet a = a
 tells_nothing body AnswerAwaited.ForPart quiet a = a
 
-covers_nothing : (letter : Letter) → IsOtherLetter letter → (number : Number) (m : ℕ) (what : AnswerAwaited) → Covers letter number m what → ⊥
+pub covers_nothing : (letter : Letter) → IsOtherLetter letter → (number : Number) (m : ℕ) (what : AnswerAwaited) → Covers letter number m what → ⊥
 covers_nothing letter other number m what c = ⊎_elim
     (λ (from, to, a). asks_nothing letter.body what other.0 a)
     (λ (to, from, t). tells_nothing letter.body what other.1 t)
@@ -88,11 +88,11 @@ falls n before life after heard how rises ready = ⊎_elim
     how
 
 -- whoever has no tickets reads nothing
-no_reads : (node : Node) → node.reads ≡ map.empty → (seq : ℕ) (ticket : ReadTicket) → map.get node.reads seq ≡ Some ticket → ⊥
+pub no_reads : (node : Node) → node.reads ≡ map.empty → (seq : ℕ) (ticket : ReadTicket) → map.get node.reads seq ≡ Some ticket → ⊥
 no_reads node none seq ticket h = none_some (map.get (map.empty {R = nat_cmp}) seq) ticket (map.get-empty nat_cmp seq) (subst (λ (r : Reads). map.get r seq ≡ Some ticket) none h)
 
-fresh_order : (node : Node) (disk : List Record) → node.boot ≡ boot_of disk → node.reads ≡ map.empty → NodeInOrder node (boot_of disk)
-fresh_order node disk boot none = record { booted = boot; numbered = λ seq ticket h. absurd (no_reads node none seq ticket h); whole = λ seq ticket h. absurd (no_reads node none seq ticket h) }
+pub fresh_order : (node : Node) (disk : List Record) → node.boot ≡ boot_of disk → node.reads ≡ map.empty → NodeInOrder node (boot_of disk)
+fresh_order node disk boot none = record { booted = boot; numbered = λ seq ticket h. absurd (no_reads node none seq ticket h); whole = λ seq ticket h. absurd (no_reads node none seq ticket h); counts = λ seq ticket h. absurd (no_reads node none seq ticket h) }
 
 pub starts : (n : ℕ) (disk after : List Record) (node : Node) → node.boot ≡ boot_of after → boot_of disk < node.boot → node.reads ≡ map.empty
     → IsAct (record { node = n; before = record { life = Down; disk = disk }; after = slot_up node after; heard = None; out = [] })

@@ -12,7 +12,7 @@ use Rattle.login_model.specs.Readings.{Reading, ReadTicket, Subject, subject_of}
 use Rattle.login_model.specs.Cluster.{Node, Life, slot_up, LifeReads}
 use Rattle.login_model.specs.Cluster.Life.{Up}
 use Rattle.login_model.specs.Rules.{with_reading}
-use Rattle.login_model.specs.Facts.{Fact, SlotShows, subject_asked, is_told, fact_told, ReadingClaims, ReadingIsWhole, AnswerAwaited, ReadingWaits, Covers, Covered, LifeWaits}
+use Rattle.login_model.specs.Facts.{Fact, SlotShows, subject_asked, is_told, fact_told, ReadingClaims, ReadingIsWhole, CountsMishap, AnswerAwaited, ReadingWaits, Covers, Covered, LifeWaits}
 use Rattle.login_model.specs.Moves.{NodeAct, NodeInOrder, Heard, ReadFrom, AsksOwn, AnswersHeard, IsReady, IsCallDone}
 use Rattle.login_model.specs.Moves.ReadFrom.{Moved, Begun}
 use Rattle.login_model.proofs.Steps.{ReadStep}
@@ -36,11 +36,11 @@ module _ (own : ℕ) (node new : Node) (disk after : List Record) (heard : Optio
     Stays : map.get node.reads seq ≡ Some ticket → TicketFrom seq ticket
     Changes : (was : ReadTicket) → map.get node.reads seq ≡ Some was → subject_of was.reading ≡ subject_of ticket.reading
         → ((m : ℕ) (fact : Fact) → ReadingClaims own ticket.reading m fact → ReadingClaims own was.reading m fact ⊎ Backs (numbered seq) (subject_of ticket.reading) m fact)
-        → (ReadingIsWhole was.reading → ReadingIsWhole ticket.reading)
+        → (ReadingIsWhole was.reading → ReadingIsWhole ticket.reading) → (CountsMishap was → CountsMishap ticket)
         → ((m : ℕ) (what : AnswerAwaited) → ReadingWaits ticket.reading m what → ReadingWaits was.reading m what ⊎ Covered out (numbered seq) m what)
         → TicketFrom seq ticket
     Begins : node.calls < seq → seq ≤ new.calls → ((m : ℕ) (fact : Fact) → ReadingClaims own ticket.reading m fact → (m ≡ own) × SlotShows (slot_up new after) fact)
-        → ReadingIsWhole ticket.reading → ((m : ℕ) (what : AnswerAwaited) → ReadingWaits ticket.reading m what → Covered out (numbered seq) m what)
+        → ReadingIsWhole ticket.reading → CountsMishap ticket → ((m : ℕ) (what : AnswerAwaited) → ReadingWaits ticket.reading m what → Covered out (numbered seq) m what)
         → TicketFrom seq ticket
 
   module _ (ready : IsReady own (slot_up node disk) heard) (boot : new.boot ≡ node.boot) (calls : node.calls ≤ new.calls) (boots : boot_of after ≡ boot_of disk)
@@ -57,17 +57,23 @@ module _ (own : ℕ) (node new : Node) (disk after : List Record) (heard : Optio
       booted = boot ∙ old_order.booted ∙ sym boots;
       numbered = λ seq ticket h. within seq ticket (tickets seq ticket h);
       whole = λ seq ticket h. whole seq ticket (tickets seq ticket h);
+      counts = λ seq ticket h. counts seq ticket (tickets seq ticket h);
     }
       where
         within : (seq : ℕ) (ticket : ReadTicket) → TicketFrom seq ticket → seq ≤ new.calls
         within seq ticket (Stays h) = le_trans (old_order.numbered seq ticket h) calls
-        within seq ticket (Changes was h subject claims whole waits) = le_trans (old_order.numbered seq was h) calls
-        within seq ticket (Begins above le claims whole waits) = le
+        within seq ticket (Changes was h subject claims whole counts waits) = le_trans (old_order.numbered seq was h) calls
+        within seq ticket (Begins above le claims whole counts waits) = le
 
         whole : (seq : ℕ) (ticket : ReadTicket) → TicketFrom seq ticket → ReadingIsWhole ticket.reading
         whole seq ticket (Stays h) = old_order.whole seq ticket h
-        whole seq ticket (Changes was h subject claims keeps waits) = keeps (old_order.whole seq was h)
-        whole seq ticket (Begins above le claims is waits) = is
+        whole seq ticket (Changes was h subject claims keeps counts waits) = keeps (old_order.whole seq was h)
+        whole seq ticket (Begins above le claims is counts waits) = is
+
+        counts : (seq : ℕ) (ticket : ReadTicket) → TicketFrom seq ticket → CountsMishap ticket
+        counts seq ticket (Stays h) = old_order.counts seq ticket h
+        counts seq ticket (Changes was h subject claims whole keeps waits) = keeps (old_order.counts seq was h)
+        counts seq ticket (Begins above le claims whole is waits) = is
 
     -- a number of this node and boot
     number_is : (number : Number) → number.node ≡ own → number.boot ≡ node.boot → numbered number.seq ≡ number
@@ -81,12 +87,12 @@ module _ (own : ℕ) (node new : Node) (disk after : List Record) (heard : Optio
       where
         by : (ticket : ReadTicket) → number.boot ≡ node.boot → TicketFrom number.seq ticket → ReadFrom act number ticket.reading
         by ticket b (Stays h) = Moved ticket.reading (record { node = node; up = refl; boot = b; ticket = ticket; here = h; is = refl }) refl (λ m fact c. inl c)
-        by ticket b (Changes was h subject claims whole waits) = Moved was.reading (record { node = node; up = refl; boot = b; ticket = was; here = h; is = refl }) subject
+        by ticket b (Changes was h subject claims whole counts waits) = Moved was.reading (record { node = node; up = refl; boot = b; ticket = was; here = h; is = refl }) subject
             (λ m fact c. ⊎_elim
             (λ old. inl old)
             (λ new_. inr (subst (λ n. Backs n (subject_of ticket.reading) m fact) (number_is number at b) new_))
             (claims m fact c))
-        by ticket b (Begins above le claims whole waits) = Begun
+        by ticket b (Begins above le claims whole counts waits) = Begun
             (λ drawn. ⊎_elim (λ below. omega (arith, below, b)) (λ (same, within). omega (arith, within, above)) drawn)
             claims
 
@@ -102,11 +108,11 @@ module _ (own : ℕ) (node new : Node) (disk after : List Record) (heard : Optio
 
         by : (ticket : ReadTicket) → number.boot ≡ node.boot → ReadingWaits ticket.reading m what → TicketFrom number.seq ticket → LifeWaits (Up node) number m what ⊎ Covered out number m what
         by ticket b waits (Stays h) = inl (stood ticket b h waits)
-        by ticket b waits (Changes was h subject claims whole on) = ⊎_elim
+        by ticket b waits (Changes was h subject claims whole counts on) = ⊎_elim
             (λ old. inl (stood was b h old))
             (λ new_. inr (subst (λ n. Covered out n m what) (number_is number at b) new_))
             (on m what waits)
-        by ticket b waits (Begins above le claims whole on) = inr (subst (λ n. Covered out n m what) (number_is number at b) (on m what waits))
+        by ticket b waits (Begins above le claims whole counts on) = inr (subst (λ n. Covered out n m what) (number_is number at b) (on m what waits))
 
     pub is_act : IsCallDone act
     is_act = record {
@@ -123,7 +129,7 @@ module _ (own : ℕ) (node new : Node) (disk after : List Record) (heard : Optio
 
 -- a ticket of the node is changed, and no other
 module _ (own : ℕ) (node : Node) (disk : List Record) (heard : Option Letter) (seq : ℕ) (was ticket : ReadTicket) (here : map.get node.reads seq ≡ Some was) (out : List Letter)
-    (ready : IsReady own (slot_up node disk) heard)
+    (ready : IsReady own (slot_up node disk) heard) (counts : CountsMishap was → CountsMishap ticket)
     (step : ReadStep (record { own = own; epoch = node.epoch; number = record { node = own; boot = node.boot; seq = seq } })
     (Backs own node (with_reading node seq ticket) disk disk heard out (record { node = own; boot = node.boot; seq = seq }) (subject_of was.reading)) was.reading (record { reading = ticket.reading; out = out })) where
   abbrev number : Number
@@ -137,7 +143,7 @@ module _ (own : ℕ) (node : Node) (disk : List Record) (heard : Option Letter) 
       (λ m fact c. ⊎_elim (λ old. inl old)
       (λ b. inr (subst (λ s. Backs own node (with_reading node seq ticket) disk disk heard out number s m fact) step.subject b))
       (step.claims m fact c))
-      step.whole step.waits)))
+      step.whole counts step.waits)))
       (λ (apart, old). Stays old)
       (found nat_cmp_total exact_unsigned node.reads seq ticket q one h)
 

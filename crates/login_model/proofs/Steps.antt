@@ -19,7 +19,7 @@ use Rattle.login_model.specs.Readings.FetchStage.{AsksHolder, IsAnswered, Nobody
 use Rattle.login_model.specs.Readings.Reading.{LogsIn, Fetches}
 use Rattle.login_model.specs.Readings.Subject.{OfUser, OfPart}
 use Rattle.login_model.specs.Rules.{ReadDid, same, Under, ask, own_told, take_word, ask_first, list_at, part_at, unlock, fail}
-use Rattle.login_model.specs.Facts.{Fact, subject_asked, is_told, ReadingClaims, StageClaims, StageIsWhole, ReadingIsWhole, LoginIsWhole, AnswerAwaited, ReadingWaits, Covered}
+use Rattle.login_model.specs.Facts.{Fact, subject_asked, is_told, ReadingClaims, StageClaims, StageIsWhole, ReadingIsWhole, LoginIsWhole, has_failed, AnswerAwaited, ReadingWaits, Covered}
 use Rattle.login_model.specs.Facts.Fact.{Manages, Names, Lists, Says}
 use Rattle.login_model.specs.Facts.AnswerAwaited.{ForWord, ForList, ForPart}
 
@@ -44,10 +44,11 @@ pub record ReadStep (u : Under) (B : ℕ → Fact → Type 0) (old : Reading) (d
   pub waits : (m : ℕ) (what : AnswerAwaited) → ReadingWaits did.reading m what → ReadingWaits old m what ⊎ Covered did.out u.number m what
   pub sent : (letter : Letter) → Among letter did.out → SentFor u did.reading letter
 
--- A reading begins: `B` has what it counts on, and whoever is waited for is asked.
+-- A reading begins: `B` has what it counts on, it has not failed, and whoever is waited for is asked.
 pub record ReadStart (u : Under) (B : ℕ → Fact → Type 0) (did : ReadDid) : Type 0 where
   pub claims : (m : ℕ) (fact : Fact) → ReadingClaims u.own did.reading m fact → B m fact
   pub whole : ReadingIsWhole did.reading
+  pub fine : has_failed did.reading ≡ true → ⊥
   pub waits : (m : ℕ) (what : AnswerAwaited) → ReadingWaits did.reading m what → Covered did.out u.number m what
   pub sent : (letter : Letter) → Among letter did.out → SentFor u did.reading letter
 

@@ -6,6 +6,7 @@ use Rattle.mail_model.specs.Record.{Record}
 use Rattle.object_model.specs.Sets.{has}
 use Rattle.object_model.specs.Lists.{Among}
 use Rattle.object_model.specs.Said.{said}
+use Rattle.object_model.specs.Mishaps.{mishaps_of}
 use Rattle.object_model.specs.Letters.{Number, ToldItem, ToldPart, Body, Letter}
 use Rattle.object_model.specs.Letters.LoginWord.{Named}
 use Rattle.object_model.specs.Letters.ToldPart.{Octets, Gone}
@@ -13,7 +14,7 @@ use Rattle.object_model.specs.Letters.Body.{LoginAsk, LoginTold, ListAsk, ListTo
 use Rattle.cluster_model.specs.Claims.{boot_of}
 use Rattle.cluster_model.specs.Reads.{ListedCopy, IsListing, IsPart, is_here_held, has_copy}
 use Rattle.login_model.specs.Rules.{first_stamp}
-use Rattle.login_model.specs.Readings.{ToldList, LoginStage, FetchStage, Fetch, Reading, Subject}
+use Rattle.login_model.specs.Readings.{ToldList, LoginStage, FetchStage, Fetch, Reading, ReadTicket, Subject}
 use Rattle.login_model.specs.Readings.LoginStage.{AsksManager, IsDenied, AsksNodes, HasFailed}
 use Rattle.login_model.specs.Readings.FetchStage.{AsksHolder, IsAnswered, NobodyLeft}
 use Rattle.login_model.specs.Readings.Reading.{LogsIn, Fetches}
@@ -40,17 +41,17 @@ abbrev pub stamp_said : Option State → Stamp
 stamp_said None = first_stamp
 stamp_said (Some state) = state.stamp
 
--- octets of the message where the copy is here, and else that it is not
-abbrev pub IsToldPart : List ℕ → Id → ℕ → ℕ → List Record → ToldPart → Type 0
-IsToldPart user id at most disk (Octets octets whole) = (is_here_held (said (Message user id) disk) ≡ true) × IsPart true id at most disk octets whole
-IsToldPart user id at most disk (Gone stamp) = (has_copy user id disk ≡ false) × (stamp ≡ stamp_said (said (Message user id) disk))
+-- Octets of the message where the copy is here, and else that it is not. Where the disk does not tell what it holds, only is known how many octets the message has.
+abbrev pub IsToldPart : Bool → List ℕ → Id → ℕ → ℕ → List Record → ToldPart → Type 0
+IsToldPart tells user id at most disk (Octets octets whole) = (is_here_held (said (Message user id) disk) ≡ true) × IsPart tells id at most disk octets whole
+IsToldPart tells user id at most disk (Gone stamp) = (has_copy user id disk ≡ false) × (stamp ≡ stamp_said (said (Message user id) disk))
 
 -- what shows a fact: a node that is up, with its disk
 abbrev pub NodeShows : Node → List Record → Fact → Type 0
 NodeShows node disk (Manages user manager) = node.manager user ≡ Some manager
 NodeShows node disk (Names user named) = node.named user ≡ named
 NodeShows node disk (Lists user items) = IsToldList user disk items
-NodeShows node disk (Says user id at most part) = IsToldPart user id at most disk part
+NodeShows node disk (Says user id at most part) = IsToldPart node.tells user id at most disk part
 
 pub record SlotShows (slot : Slot) (fact : Fact) : Type 0 where
   pub node : Node
@@ -151,6 +152,26 @@ LoginIsWhole HasFailed = Unit {0}
 abbrev pub ReadingIsWhole : Reading → Type 0
 ReadingIsWhole (LogsIn login) = LoginIsWhole login.stage
 ReadingIsWhole (Fetches fetch) = Unit {0}
+
+-- whether a call has failed
+abbrev pub login_failed : LoginStage → Bool
+login_failed AsksManager = false
+login_failed (IsDenied word) = false
+login_failed (AsksNodes named waiting told) = false
+login_failed HasFailed = true
+
+abbrev pub fetch_failed : FetchStage → Bool
+fetch_failed (AsksHolder holder left) = false
+fetch_failed (IsAnswered by part) = false
+fetch_failed NobodyLeft = true
+
+abbrev pub has_failed : Reading → Bool
+has_failed (LogsIn login) = login_failed login.stage
+has_failed (Fetches fetch) = fetch_failed fetch.stage
+
+-- a call that has failed counts a mishap
+abbrev pub CountsMishap : ReadTicket → Type 0
+CountsMishap ticket = has_failed ticket.reading ≡ true → 0 < mishaps_of ticket.mishaps
 
 -- what a ticket may wait for: the word of a manager, the list of a node, a part
 pub data AnswerAwaited : Type 0 where

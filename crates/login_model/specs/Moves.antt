@@ -7,7 +7,7 @@ use Rattle.cluster_model.specs.Claims.{boot_of}
 use Rattle.login_model.specs.Readings.{Reading, ReadTicket, Subject, subject_of}
 use Rattle.login_model.specs.Cluster.{Node, Slot, Cluster, slot_at, with_slot, LifeReads}
 use Rattle.login_model.specs.Cluster.Life.{Up}
-use Rattle.login_model.specs.Facts.{Fact, SlotShows, DrawnAt, subject_asked, is_told, fact_told, ReadingClaims, ReadingIsWhole, AnswerAwaited, Covers, Covered, LifeWaits, NodesWait}
+use Rattle.login_model.specs.Facts.{Fact, SlotShows, DrawnAt, subject_asked, is_told, fact_told, ReadingClaims, ReadingIsWhole, CountsMishap, AnswerAwaited, Covers, Covered, LifeWaits, NodesWait}
 
 -- what a node did, or what befell it: the letter that it heard, and those that it sends
 pub record NodeAct : Type 0 where
@@ -26,11 +26,12 @@ abbrev pub after_move : Move → Cluster → Cluster
 after_move (Acted act) w = record { slots = with_slot w.slots act.node act.after; flying = w.flying ++ act.out; story = with_slot w.slots act.node act.after ∷ w.story }
 after_move (Taken letter left) w = record w { flying = left }
 
--- What holds of a node alone: its boot is on its disk, its tickets have numbers that it drew, and their readings are whole.
+-- What holds of a node alone: its boot is on its disk, its tickets have numbers that it drew, their readings are whole, and one that has failed counts a mishap.
 pub record NodeInOrder (node : Node) (boot : ℕ) : Type 0 where
   pub booted : node.boot ≡ boot
   pub numbered : (seq : ℕ) (ticket : ReadTicket) → map.get node.reads seq ≡ Some ticket → seq ≤ node.calls
   pub whole : (seq : ℕ) (ticket : ReadTicket) → map.get node.reads seq ≡ Some ticket → ReadingIsWhole ticket.reading
+  pub counts : (seq : ℕ) (ticket : ReadTicket) → map.get node.reads seq ≡ Some ticket → CountsMishap ticket
 
 pub record IsInOrder (slot : Slot) : Type 0 where
   pub each : (node : Node) → slot.life ≡ Up node → NodeInOrder node (boot_of slot.disk)

@@ -15,7 +15,7 @@ use Rattle.login_model.specs.Readings.{Login, Reading, ReadTicket}
 use Rattle.login_model.specs.Readings.Reading.{LogsIn}
 use Rattle.login_model.specs.Cluster.{Node, Life, Slot, Cluster, slot_at, slot_up, NodesRead}
 use Rattle.login_model.specs.Cluster.Life.{Up, Down, Lost}
-use Rattle.login_model.specs.Rules.{Reaction, idle, answering, judge, hear_told, read_at, under, next_number, begin_read, begin_login, begin_fetch, mishap, end_read, give_up_read, leave}
+use Rattle.login_model.specs.Rules.{Reaction, idle, answering, IsWordOf, hear_told, read_at, under, next_number, begin_read, begin_login, begin_fetch, mishap, end_read, give_up_read, leave}
 use Rattle.login_model.specs.Facts.{IsToldList, IsToldPart, subject_asked, is_told, GoesOut, far_end}
 use Rattle.login_model.specs.Moves.{NodeAct, Move, MayMove, MayMoves, IsReady, IsAct, IsCallDone}
 use Rattle.login_model.specs.Moves.Move.{Acted, Taken}
@@ -32,9 +32,9 @@ HasMine own node disk letter word mine = (login : Login) (ticket : ReadTicket) �
 
 -- what a node does with a letter of a call that reads
 abbrev pub Hears : Plan → ℕ → Node → List Record → Letter → Body → Reaction → Type 0
-Hears plan own node disk letter (LoginAsk user proof) did = did ≡ answering node letter (LoginTold (judge plan node user proof))
+Hears plan own node disk letter (LoginAsk user proof) did = (word : LoginWord) × IsWordOf plan node user proof word × (did ≡ answering node letter (LoginTold word))
 Hears plan own node disk letter (ListAsk user) did = (mine : List ToldItem) × IsToldList user disk mine × (did ≡ answering node letter (ListTold mine))
-Hears plan own node disk letter (FetchAsk user id at most) did = (part : ToldPart) × IsToldPart user id at most disk part × (did ≡ answering node letter (FetchTold part))
+Hears plan own node disk letter (FetchAsk user id at most) did = (part : ToldPart) × IsToldPart node.tells user id at most disk part × (did ≡ answering node letter (FetchTold part))
 Hears plan own node disk letter (LoginTold word) did = (mine : List ToldItem) × HasMine own node disk letter word mine × (did ≡ hear_told own node letter mine)
 Hears plan own node disk letter (ListTold items) did = did ≡ hear_told own node letter []
 Hears plan own node disk letter (FetchTold part) did = did ≡ hear_told own node letter []
@@ -45,13 +45,17 @@ NodesHear = (plan : Plan) (own : ℕ) (node : Node) (disk : List Record) (letter
     → IsReady own (slot_up node disk) (Some letter) → IsCallDone (act_of own node disk did (Some letter))
 
 abbrev pub NodesLogIn : Type 0
-NodesLogIn = (plan : Plan) (own : ℕ) (node : Node) (disk : List Record) (user : List ℕ) (proof : Proof) (manager : ℕ) (mine : List ToldItem) → node.manager user ≡ Some manager
-    → ((named : ℕ) → judge plan node user proof ≡ Named named → has named own ≡ true → IsToldList user disk mine) → IsReady own (slot_up node disk) None
-    → IsCallDone (act_of own node disk (begin_read own node (begin_login (under own node (next_number own node)) user proof manager (judge plan node user proof) mine)) None)
+NodesLogIn = (plan : Plan) (own : ℕ) (node : Node) (disk : List Record) (user : List ℕ) (proof : Proof) (manager : ℕ) (word : LoginWord) (mine : List ToldItem) → node.manager user ≡ Some manager
+    → (manager ≡ own → IsWordOf plan node user proof word) → ((named : ℕ) → manager ≡ own → word ≡ Named named → has named own ≡ true → IsToldList user disk mine) → IsReady own (slot_up node disk) None
+    → IsCallDone (act_of own node disk (begin_read own node (begin_login (under own node (next_number own node)) user proof manager word mine)) None)
+
+-- some node is a holder
+abbrev pub HasHolder : ℕ → Type 0
+HasHolder holders = (m : ℕ) × (has holders m ≡ true)
 
 abbrev pub NodesFetch : Type 0
-NodesFetch = (own : ℕ) (node : Node) (disk : List Record) (user : List ℕ) (id : Id) (at most holders : ℕ) (part : ToldPart)
-    → (has holders own ≡ true → IsToldPart user id at most disk part) → IsReady own (slot_up node disk) None
+NodesFetch = (own : ℕ) (node : Node) (disk : List Record) (user : List ℕ) (id : Id) (at most holders : ℕ) (part : ToldPart) → HasHolder holders
+    → (has holders own ≡ true → IsToldPart node.tells user id at most disk part) → IsReady own (slot_up node disk) None
     → IsCallDone (act_of own node disk (begin_read own node (begin_fetch (under own node (next_number own node)) user id at most holders part)) None)
 
 abbrev pub NodesBefall : Type 0

@@ -1,14 +1,18 @@
 -- How far a call that reads has come: what an ask of its ticket answers.
-use Rattle.std.specs.Prelude.{◌≡◌, ℕ, true, List, [], ◌∷◌, length}
+use Rattle.std.specs.Prelude.{◌≡◌, ◌<◌, ◌≤◌, ◌+◌, ℕ, true, List, [], ◌∷◌, length, Some}
+use Rattle.std.specs.FinMap as map
+use Rattle.mail_model.specs.Record.{Record}
 use Rattle.object_model.specs.Sets.{has, count_in, nodes_in}
 use Rattle.object_model.specs.Letters.{LoginWord, ToldPart}
-use Rattle.object_model.specs.Mishaps.{Mishaps}
+use Rattle.object_model.specs.Mishaps.{Mishaps, mishaps_of}
 use Rattle.login_model.specs.Readings.{ToldList, LoginStage, Login, FetchStage, Reading, ReadTicket}
 use Rattle.login_model.specs.Readings.LoginStage.{AsksManager, IsDenied, AsksNodes, HasFailed}
 use Rattle.login_model.specs.Readings.FetchStage.{AsksHolder, IsAnswered, NobodyLeft}
 use Rattle.login_model.specs.Readings.Reading.{LogsIn, Fetches}
 use Rattle.login_model.specs.Facts.{AnswerAwaited, ReadingWaits}
 use Rattle.login_model.specs.Rules.{Under, befell}
+use Rattle.login_model.specs.Cluster.{Node, Cluster, slot_at, slot_up}
+use Rattle.login_model.specs.Parts.{Sound}
 
 -- What a call comes to. The items of a listing are the merge of what was told.
 pub data ReadAnswer : Type 0 where
@@ -53,3 +57,28 @@ MishapEndsWait = (u : Under) (m : ℕ) (reading : Reading) (what : AnswerAwaited
 abbrev pub ListsAreAll : Type 0
 ListsAreAll = (ticket : ReadTicket) (login : Login) → ticket.reading ≡ LogsIn login → (manager named : ℕ) (told : List ToldList) → ask_read ticket ticket.reading ≡ Done (Lists manager named told)
     → (manager ≡ login.manager) × ((waiting : ℕ) × (login.stage ≡ AsksNodes named waiting told) × ((m : ℕ) → has waiting m ≡ true → ⊥))
+
+-- A ticket that is done since its call failed counts a mishap.
+abbrev pub FailuresCount : Type 0
+FailuresCount = (w : Cluster) → Sound w → (n : ℕ) (node : Node) (disk : List Record) → slot_at w.slots n ≡ Some (slot_up node disk) → (seq : ℕ) (ticket : ReadTicket) → map.get node.reads seq ≡ Some ticket
+    → (mishaps : Mishaps) → ask_read ticket ticket.reading ≡ Done (Fails mishaps) → 0 < mishaps_of mishaps
+
+-- How many letters mishaps may still send for a call: an Unlock for a login that its manager may have let in, and a FetchAsk to each holder that is left.
+abbrev pub login_chances : LoginStage → ℕ
+login_chances AsksManager = 1
+login_chances (IsDenied word) = 0
+login_chances (AsksNodes named waiting told) = 1
+login_chances HasFailed = 0
+
+abbrev pub fetch_chances : FetchStage → ℕ
+fetch_chances (AsksHolder holder left) = count_in left
+fetch_chances (IsAnswered by part) = 0
+fetch_chances NobodyLeft = 0
+
+abbrev pub chances : Reading → ℕ
+chances (LogsIn login) = login_chances login.stage
+chances (Fetches fetch) = fetch_chances fetch.stage
+
+-- Each letter that a mishap sends takes one of these away.
+abbrev pub ChancesFall : Type 0
+ChancesFall = (u : Under) (at : ℕ) (reading : Reading) → length (befell u at reading).out + chances (befell u at reading).reading ≤ chances reading

@@ -1,5 +1,5 @@
 -- What a node does for calls that read. It changes tickets and sends letters; no disk is written.
-use Rattle.std.specs.Prelude.{ℕ, ◌+◌, ◌&&◌, nat_eq, List, [], ◌∷◌, ◌++◌, Option, Some, None, if◌then◌else◌}
+use Rattle.std.specs.Prelude.{◌≡◌, ◌⊎◌, ℕ, ◌+◌, ◌&&◌, true, nat_eq, List, [], ◌∷◌, ◌++◌, Option, Some, None, if◌then◌else◌}
 use Rattle.std.specs.FinMap as map
 use Rattle.mail_model.specs.Identity.{Id, EpochId, Stamp}
 use Rattle.mail_model.specs.Plan.{Plan, Proof, proves}
@@ -202,9 +202,13 @@ leave own node user login manager = record { node = node; out = unlock (under ow
 abbrev pub first_stamp : Stamp
 first_stamp = record { count = 0; boot = 0; node = 0 }
 
--- The word of a manager. Its lock on the maildrop is to be taken here, between the two.
+-- The word of a manager by the secret alone.
 abbrev pub judge : Plan → Node → List ℕ → Proof → LoginWord
 judge plan node user proof = if proves plan user proof then Named (node.named user) else Wrong first_stamp
+
+-- A manager tells that word; or, where the proof is right, that another login has the maildrop.
+abbrev pub IsWordOf : Plan → Node → List ℕ → Proof → LoginWord → Type 0
+IsWordOf plan node user proof word = (word ≡ judge plan node user proof) ⊎ ((proves plan user proof ≡ true) × (by : Number) × (word ≡ InUse by))
 
 -- a letter is answered
 abbrev pub answering : Node → Letter → Body → Reaction

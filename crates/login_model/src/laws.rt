@@ -1,13 +1,19 @@
 // The laws of the machine: functions that do nothing, whose contracts hold of the definitions alone.
 ghost use Rattle.login_model.specs.Laws.{MovesKeepSound, LoginsKnow, FetchesKnow, AwaitedFly};
+ghost use Rattle.login_model.specs.Beside.{BesideKeepsSound};
 ghost use Rattle.login_model.specs.Listing.{FreshListsStanding, StillIsFresh};
 ghost use Rattle.login_model.specs.Putting.{PutsMayMove};
-ghost use Rattle.login_model.specs.Progress.{PendingWaits, MishapEndsWait, ListsAreAll};
+ghost use Rattle.login_model.specs.Progress.{PendingWaits, MishapEndsWait, ListsAreAll, FailuresCount, ChancesFall};
 ghost use Rattle.login_model.specs.NodeLaws.{NodesHear, NodesLogIn, NodesFetch, NodesBefall, NodesEnd, NodesGiveUp, NodesLeave, NodesDoOther, NodesFall, NodesStart, OpeningIsSound, RulesGoOut, LostMayMove, LateMayMove, HeardMayMove};
 
 /// Whatever moves are made, a sound cluster stays sound.
 pub fn moves_keep_sound()
     ensures { MovesKeepSound }
+{}
+
+/// A step in which calls that read do nothing keeps a sound cluster sound, whatever its nodes do in it.
+pub fn beside_keeps_sound()
+    ensures { BesideKeepsSound }
 {}
 
 /// What a login was told was true at a moment since it began.
@@ -128,4 +134,15 @@ pub fn lists_are_all()
 /// That letters are put in flight, some of them with mishaps, is made of moves.
 pub fn puts_may_move()
     ensures { PutsMayMove }
+{}
+
+/// A call that failed counts a mishap at least.
+pub fn failures_count()
+    ensures { FailuresCount }
+{}
+
+/// Each letter that a mishap sends for a call takes a chance of the call away, so that mishaps send no more letters than it had
+/// chances.
+pub fn chances_fall()
+    ensures { ChancesFall }
 {}

@@ -15,17 +15,20 @@
 //! - `Readings`: how far a login and a fetch have come, and their tickets.
 //! - `Cluster`: what calls that read see of a cluster, with its story: the slots of all moments so far.
 //! - `Rules`: what one node does, as functions of plain values.
-//! - `Progress`: what an ask of a ticket answers.
+//! - `Locks`: which login holds each user's maildrop. The machine does not see them: a manager may tell
+//!   that a maildrop is in use, and a node whose locks are said beside it tells just that.
+//! - `Progress`: what an ask of a ticket answers, and how many letters mishaps may still send for a call.
 //! - `Facts`, `Moves`, `Parts`: what may be told of a node, what a node may do, and the invariant.
+//! - `Beside`: a step in which these calls do nothing.
 //! - `Putting`: how letters are put in flight, where a mishap sends letters.
 //! - `Listing`: what a login lists, and when it lists exactly what stands.
 //! - `Laws`, `NodeLaws`: what holds whatever moves are made, and that each rule is a move.
 //!
 //! The laws are functions that do nothing, and their contracts hold of the definitions alone. Of the
-//! invariant: `opening_is_sound`, `moves_keep_sound`. Of what is known: `logins_know`, `fetches_know`,
-//! `lists_are_all`. Of who is waited for: `awaited_fly`, `pending_waits`,
-//! `mishap_ends_wait`. Of a listing:
-//! `fresh_lists_standing`, `still_is_fresh`. The others say that a rule or a step is made of moves.
+//! invariant: `opening_is_sound`, `moves_keep_sound`, `beside_keeps_sound`. Of what is known: `logins_know`, `fetches_know`,
+//! `lists_are_all`, `failures_count`. Of who is waited for: `awaited_fly`, `pending_waits`,
+//! `mishap_ends_wait`, `chances_fall`. Of a listing: `fresh_lists_standing`, `still_is_fresh`. The others
+//! say that a rule or a step is made of moves.
 //!
 //! STANDS ON
 //!
@@ -35,16 +38,17 @@
 //! WHAT IT DOES NOT DO
 //!
 //! It has no code, and no line of the program uses it: mail is read at one node, by the rules of
-//! `cluster_model`. It takes no locks of maildrops, and a manager judges by the plan's secrets and not
-//! by profiles. Of maps it knows only whom a node names of a user, and who manages the user. It does
+//! `cluster_model`. Its nodes keep no locks of maildrops, and a manager judges by the plan's secrets and
+//! not by profiles. Of maps it knows only whom a node names of a user, and who manages the user. It does
 //! not say that a call ends.
 #![tactic(auto)]
 
 mod laws;
 
 pub use laws::{
-    awaited_fly, fetches_know, fresh_lists_standing, heard_may_move, late_may_move, lists_are_all,
-    logins_know, lost_may_move, mishap_ends_wait, moves_keep_sound, nodes_befall, nodes_do_other,
-    nodes_end, nodes_fall, nodes_fetch, nodes_give_up, nodes_hear, nodes_leave, nodes_log_in,
-    nodes_start, opening_is_sound, pending_waits, puts_may_move, rules_go_out, still_is_fresh,
+    awaited_fly, beside_keeps_sound, chances_fall, failures_count, fetches_know,
+    fresh_lists_standing, heard_may_move, late_may_move, lists_are_all, logins_know, lost_may_move,
+    mishap_ends_wait, moves_keep_sound, nodes_befall, nodes_do_other, nodes_end, nodes_fall,
+    nodes_fetch, nodes_give_up, nodes_hear, nodes_leave, nodes_log_in, nodes_start,
+    opening_is_sound, pending_waits, puts_may_move, rules_go_out, still_is_fresh,
 };

@@ -3,3 +3,4 @@ pub mod Stages
 pub mod Changes
 pub mod Lifts
 pub mod Asked
+pub mod Spares

@@ -13,7 +13,8 @@ use Rattle.login_model.specs.Readings.LoginStage.{AsksManager}
 use Rattle.login_model.specs.Readings.FetchStage.{IsAnswered, NobodyLeft}
 use Rattle.login_model.specs.Readings.Reading.{LogsIn, Fetches}
 use Rattle.login_model.specs.Cluster.{Node}
-use Rattle.login_model.specs.Rules.{ReadDid, Under, Reaction, under, told_at, befell_at, begin_read, next_number, read_at, same, ask, ask_next, take_word, begin_login, begin_fetch}
+use Rattle.cluster_model.specs.Rules.{receivers}
+use Rattle.login_model.specs.Rules.{ReadDid, Under, Reaction, under, told_at, befell_at, begin_read, next_number, read_at, same, ask, ask_first, ask_next, take_word, begin_login, begin_fetch}
 use Rattle.node_reads.specs.declared.reads.NodeReads.{NodeReads}
 use Rattle.node_reads.specs.Tables.{reads_in, is_own, ticket_at, node_with, left_by, Begins, Hears, Befalls, GivesUp, given_up_at}
 use Rattle.node_reads.specs.Tickets.{TableDid, ticket_told, ticket_befell, did_if_stands, taken_if_stands, letters_given_up}
@@ -156,8 +157,13 @@ module _ (u : Under) (user : List ℕ) (id : Id) (at most holders : ℕ) (part :
   abbrev fetch_of : FetchStage → Fetch
   fetch_of stage = record { user = user; id = id; at = at; most = most; stage = stage }
 
-  pub asks_holders : has holders u.own ≡ false → ask_next u (fetch_of NobodyLeft) holders ≡ begin_fetch u user id at most holders part
-  asks_holders other = ap (λ (b : Bool). if b then same (Fetches (fetch_of (IsAnswered u.own part))) else ask_next u (fetch_of NobodyLeft) holders) (sym other)
+  -- whatever it asked before
+  any_stage : (stage : FetchStage) (to : List ℕ) → ask_first u (fetch_of stage) holders to ≡ ask_first u (fetch_of NobodyLeft) holders to
+  any_stage stage [] = refl
+  any_stage stage (holder ∷ others) = refl
+
+  pub asks_holders : (stage : FetchStage) → has holders u.own ≡ false → ask_next u (fetch_of stage) holders ≡ begin_fetch u user id at most holders part
+  asks_holders stage other = any_stage stage (receivers u.own holders 64) ∙ ap (λ (b : Bool). if b then same (Fetches (fetch_of (IsAnswered u.own part))) else ask_next u (fetch_of NobodyLeft) holders) (sym other)
 
   pub answers_itself : has holders u.own ≡ true → same (Fetches (fetch_of (IsAnswered u.own part))) ≡ begin_fetch u user id at most holders part
   answers_itself own = ap (λ (b : Bool). if b then same (Fetches (fetch_of (IsAnswered u.own part))) else ask_next u (fetch_of NobodyLeft) holders) (sym own)

@@ -1,5 +1,5 @@
 -- Rules by cases on how far a call has come, as the code tests them.
-use Rattle.std.proofs.Common.{◌≡◌, ℕ, nat_eq, Bool, true, false, List, [], ◌∷◌, Some, None, refl, if◌then◌else◌}
+use Rattle.std.proofs.Common.{◌≡◌, ℕ, nat_eq, Bool, true, false, List, [], ◌∷◌, Option, Some, None, refl, if◌then◌else◌}
 use Rattle.object_model.specs.Sets.{without_node}
 use Rattle.object_model.specs.Letters.{LoginWord, ToldItem, ToldPart}
 use Rattle.cluster_model.specs.Rules.{receivers}
@@ -8,7 +8,7 @@ use Rattle.login_model.specs.Readings.LoginStage.{AsksManager, IsDenied, AsksNod
 use Rattle.login_model.specs.Readings.FetchStage.{AsksHolder, IsAnswered, NobodyLeft}
 use Rattle.login_model.specs.Readings.Reading.{LogsIn, Fetches}
 use Rattle.login_model.specs.Rules.{Under, same, take_word, word_at, fail, login_befell, given_up, unlock, ask_first, ask_next, part_at, fetch_befell}
-use Rattle.node_reads.specs.Readings.{first_in, asks_manager, login_waits, may_hold_lock, asks_first, left_after, asks_if_left, has_part}
+use Rattle.node_reads.specs.Readings.{first_in, asks_manager, login_waits, may_hold_lock, HasSpare, asks_first, left_after, asks_if_left, has_part}
 
 pub word_is : (u : Under) (from : ℕ) (login : Login) (mine : List ToldItem) (word : LoginWord) (stage : LoginStage)
     → word_at u from login mine word stage ≡ (if asks_manager from login stage then take_word u login mine word else same (LogsIn login))
@@ -49,3 +49,22 @@ fetch_befell_is u at fetch (AsksHolder holder left) = by (nat_eq at holder)
     by false = refl
 fetch_befell_is u at fetch (IsAnswered by part) = refl
 fetch_befell_is u at fetch NobodyLeft = refl
+
+-- who asks a manager, or waits for a node, may hold a lock, and has a copy of the name
+pub asks_may_hold : (from : ℕ) (login : Login) (stage : LoginStage) → asks_manager from login stage ≡ true → may_hold_lock stage ≡ true
+asks_may_hold from login AsksManager e = refl
+asks_may_hold from login (IsDenied other) e = e
+asks_may_hold from login (AsksNodes named waiting told) e = refl
+asks_may_hold from login HasFailed e = e
+
+pub waits_may_hold : (at : ℕ) (login : Login) (stage : LoginStage) → login_waits at login stage ≡ true → may_hold_lock stage ≡ true
+waits_may_hold at login AsksManager e = refl
+waits_may_hold at login (IsDenied other) e = e
+waits_may_hold at login (AsksNodes named waiting told) e = refl
+waits_may_hold at login HasFailed e = e
+
+pub spare_is : (stage : LoginStage) (user : List ℕ) (spare : Option (List ℕ)) → may_hold_lock stage ≡ true → HasSpare stage user spare → spare ≡ Some user
+spare_is AsksManager user spare e h = h
+spare_is (IsDenied other) user spare e h = absurd (cc e)
+spare_is (AsksNodes named waiting told) user spare e h = h
+spare_is HasFailed user spare e h = absurd (cc e)

@@ -1,8 +1,10 @@
 -- What an ask of a ticket gives, by what the machine says of the ticket.
-use Rattle.std.specs.Prelude.{◌≡◌, ℕ, Bool, true, false, List, [], ◌∷◌, map, Option, Some, None}
+use Rattle.std.specs.Prelude.{◌≡◌, ℕ, nat_eq, Bool, true, false, not, List, [], ◌∷◌, map, Option, Some, None, is_some, if◌then◌else◌}
 use Rattle.std.specs.FinMap as fin
 use Rattle.object_model.specs.Letters as plain
 use Rattle.object_model.specs.Letters.{Number}
+use Rattle.mail_base.specs.declared.filing.CallKind.{CallKind}
+use Rattle.mail_base.specs.declared.filing.CallKind.TheVariants as call
 use Rattle.call_tickets.specs.declared.answer.Ask.{Ask}
 use Rattle.call_tickets.specs.declared.answer.Ask.TheVariants as code
 use Rattle.call_tickets.specs.declared.answer.Answer.{Answer}
@@ -11,7 +13,7 @@ use Rattle.node_tickets.specs.Seen.{mishaps_seen}
 use Rattle.login_model.specs.Readings.{LoginStage, Reading, ReadTicket, Reads}
 use Rattle.login_model.specs.Readings.LoginStage.{AsksManager, IsDenied, AsksNodes, HasFailed}
 use Rattle.login_model.specs.Readings.Reading.{LogsIn, Fetches}
-use Rattle.login_model.specs.Progress.{ReadAnswer, ReadAsk, ask_read}
+use Rattle.login_model.specs.Progress.{ReadAnswer, ReadAsk, ask_read, chances}
 use Rattle.login_model.specs.Progress.ReadAnswer.{Lists, Denies, Gives, Fails}
 use Rattle.login_model.specs.Progress.ReadAsk.{Pending, Done}
 use Rattle.login_model.specs.Listing.{LoginItem, IsMergeOfTold}
@@ -32,6 +34,37 @@ AnswersAs number answer other = ⊥
 abbrev pub pending_of : ReadAsk → Option Ask
 pending_of (Pending got wanted) = Some (code.Pending got wanted)
 pending_of (Done answer) = None
+
+-- whether a call is done
+abbrev pub is_done : ReadTicket → Bool
+is_done ticket = not (is_some (pending_of (ask_read ticket ticket.reading)))
+
+abbrev pub done_at : Option ReadTicket → Bool
+done_at None = false
+done_at (Some ticket) = is_done ticket
+
+-- the kind of a call
+abbrev pub kind_of : Reading → CallKind
+kind_of (LogsIn login) = call.Login
+kind_of (Fetches fetch) = call.Fetch
+
+abbrev pub kind_at : Option ReadTicket → Option CallKind
+kind_at None = None
+kind_at (Some ticket) = Some (kind_of ticket.reading)
+
+-- how many letters mishaps may still send for a call
+abbrev pub chances_at : Option ReadTicket → ℕ
+chances_at None = 0
+chances_at (Some ticket) = chances ticket.reading
+
+-- the user of a login that the node manages itself
+abbrev pub managed_user : ℕ → Reading → Option (List ℕ)
+managed_user own (LogsIn login) = if nat_eq login.manager own then Some login.user else None
+managed_user own (Fetches fetch) = None
+
+abbrev pub managed_user_at : ℕ → Option ReadTicket → Option (List ℕ)
+managed_user_at own None = None
+managed_user_at own (Some ticket) = managed_user own ticket.reading
 
 -- a call is done, with this answer
 abbrev pub DoneAs : Number → ReadAsk → Answer → Type 0

@@ -1,5 +1,5 @@
 -- What becomes of one call that reads, in words that the code tests.
-use Rattle.std.specs.Prelude.{ℕ, Bool, true, false, nat_eq, List, [], ◌∷◌, Option, Some, None, if◌then◌else◌}
+use Rattle.std.specs.Prelude.{◌≡◌, ◌≤◌, ℕ, Bool, true, false, nat_eq, List, [], ◌∷◌, length, All, Option, Some, None, if◌then◌else◌}
 use Rattle.object_model.specs.Sets.{has, without_node}
 use Rattle.object_model.specs.Letters.{Letter}
 use Rattle.object_model.specs.Letters.Body.{FetchAsk}
@@ -8,6 +8,7 @@ use Rattle.login_model.specs.Readings.LoginStage.{AsksManager, IsDenied, AsksNod
 use Rattle.login_model.specs.Readings.FetchStage.{AsksHolder, IsAnswered, NobodyLeft}
 use Rattle.login_model.specs.Readings.Reading.{LogsIn, Fetches}
 use Rattle.login_model.specs.Rules.{ReadDid, Under, ask, ask_next}
+use Rattle.login_model.specs.Progress.{fetch_chances}
 
 -- one letter, or none
 abbrev pub listed : Option Letter → List Letter
@@ -46,6 +47,17 @@ may_hold_lock AsksManager = true
 may_hold_lock (IsDenied word) = false
 may_hold_lock (AsksNodes named waiting told) = true
 may_hold_lock HasFailed = false
+
+-- As long as its manager may have given it a lock, a login has a copy of its user's name.
+abbrev pub HasSpare : LoginStage → List ℕ → Option (List ℕ) → Type 0
+HasSpare AsksManager user spare = spare ≡ Some user
+HasSpare (IsDenied word) user spare = Unit {0}
+HasSpare (AsksNodes named waiting told) user spare = spare ≡ Some user
+HasSpare HasFailed user spare = Unit {0}
+
+-- A fetch has such a copy for each holder that is left.
+abbrev pub HasSpares : FetchStage → List ℕ → List (List ℕ) → Type 0
+HasSpares stage user spares = (fetch_chances stage ≤ length spares) × All (λ name. name ≡ user) spares
 
 -- whether a fetch asks this holder
 abbrev pub fetch_waits : ℕ → FetchStage → Bool

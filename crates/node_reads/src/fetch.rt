@@ -1,10 +1,10 @@
 //! How far a fetch of a part of a message has come.
-ghost use Rattle.std.specs.Prelude.{◌≡◌, [], Some, None, IfOk, OnErr};
-ghost use Rattle.object_model.specs.Letters.Body.{FetchAsk};
+ghost use Rattle.std.specs.Prelude.{◌≡◌, ◌≤◌, ◌<◌, [], ◌∷◌, ◌++◌, true, length, All, Some, None, IfOk};
+ghost use Rattle.object_model.specs.Sets.{has, count_in};
 ghost use Rattle.mail_base.specs.Bodies.{part_seen};
-ghost use Rattle.login_model.specs.Readings.FetchStage.{IsAnswered as IsAnsweredBy, NobodyLeft};
-ghost use Rattle.login_model.specs.Rules.{ask, ask_next, part_at, fetch_befell};
-ghost use Rattle.login_model.specs.Progress.{fetch_ask};
+ghost use Rattle.login_model.specs.Readings.FetchStage.{AsksHolder as AsksOne, IsAnswered as IsAnsweredBy};
+ghost use Rattle.login_model.specs.Rules.{ask_next, part_at, fetch_befell};
+ghost use Rattle.login_model.specs.Progress.{fetch_ask, fetch_chances};
 ghost use Rattle.login_model.specs.Progress.ReadAnswer.{Gives};
 ghost use Rattle.object_model.specs.Letters as plain;
 ghost use Rattle.object_model.specs.Mishaps as befell;
@@ -18,7 +18,7 @@ use crate::nodes::lowest_other;
 use crate::under::Under;
 use call_tickets::{Answer, Ask, Mishaps};
 use mail_base::{Body, Letter, MsgId, Name, NodeNo, NodeSet, ToldPart};
-use std::alloc::AllocError;
+use std::alloc::{AllocError, Global};
 use std::marker::Model;
 
 /// How far a fetch has come: it asks one holder, and others are left; one has answered; or nobody is left.
@@ -33,6 +33,8 @@ pub(crate) enum FetchStage {
 #[derive(Drop)]
 pub(crate) struct Fetch {
     user: Name,
+    // a copy of the name for each holder that is left, so that to ask the next one takes no memory
+    spares: Vec<Name>,
     id: MsgId,
     from: u64,
     most: u64,
@@ -42,10 +44,34 @@ pub(crate) struct Fetch {
 impl Model for Fetch {
     ghost use Rattle.login_model.specs.Readings.{Fetch as Seen};
     ghost use Rattle.node_reads.specs.FetchStages.{fetch_stage_seen};
+    ghost use Rattle.node_reads.specs.Readings.{HasSpares};
 
     ghost Value = { Seen };
 
     ghost view = { λ f. record { user = f.user; id = f.id; at = f.from; most = f.most; stage = fetch_stage_seen f.stage } };
+
+    ghost invariant = { λ f. HasSpares (fetch_stage_seen f.stage) f.user f.spares.items };
+}
+
+// So many copies of the name.
+fn copies(alloc: Global, name: &Name, count: u32) -> Result<Vec<Name>, AllocError>
+    ensures many { IfOk result (λ list. length list.items ≡ count) }
+    ensures same { IfOk result (λ list. All (λ one. one ≡ name.now) list.items) }
+{
+    if count == 0 {
+        return Ok(Vec::new(alloc));
+    }
+    let mut list = copies(alloc, name, count - 1)?;
+    list.push(name.copy()?)?;
+    Ok(list)
+}
+
+// Takes one of the names, of which there is one. It takes no memory.
+fn take_one(names: &mut Vec<Name>) -> Name
+    requires { 0 < length names.old.items }
+    ensures { names.old.items ≡ names.new.items ++ result ∷ [] }
+{
+    names.pop().unwrap()
 }
 
 // A part as the answer to a fetch. Its octets are moved.
@@ -59,69 +85,91 @@ fn answer_of(part: ToldPart) -> Answer
 }
 
 impl Fetch {
-    /// A fetch that asks nobody yet.
-    pub(crate) fn new(user: Name, id: MsgId, from: u64, most: u64) -> Fetch
-        ensures { result ≡ record { user = user; id = id; at = from; most = most; stage = NobodyLeft } }
+    /// A fetch that can ask each of these holders. It has asked nobody of them yet.
+    ///
+    /// # Errors
+    ///
+    /// Out of memory alone.
+    pub(crate) fn new(
+        alloc: Global,
+        own: NodeNo,
+        user: Name,
+        id: MsgId,
+        from: u64,
+        most: u64,
+        holders: NodeSet,
+    ) -> Result<Fetch, AllocError>
+        ensures { IfOk result (λ fetch. fetch ≡ record { user = user; id = id; at = from; most = most; stage = AsksOne own holders }) }
     {
-        Fetch {
+        let spares = copies(alloc, &user, holders.count())?;
+        Ok(Fetch {
             user,
+            spares,
             id,
             from,
             most,
-            stage: FetchStage::NobodyLeft,
+            stage: FetchStage::AsksHolder {
+                holder: own,
+                left: holders,
+            },
+        })
+    }
+
+    /// A fetch that its own node answers. It takes no memory.
+    pub(crate) fn answered(
+        alloc: Global,
+        user: Name,
+        id: MsgId,
+        from: u64,
+        most: u64,
+        by: NodeNo,
+        part: ToldPart,
+    ) -> Fetch
+        ensures { result ≡ record { user = user; id = id; at = from; most = most; stage = IsAnsweredBy by (part_seen part) } }
+    {
+        Fetch {
+            user,
+            spares: Vec::new(alloc),
+            id,
+            from,
+            most,
+            stage: FetchStage::IsAnswered { by, part },
         }
     }
 
-    // The letter that asks this holder.
-    fn ask_for(&self, u: &Under, holder: NodeNo) -> Result<Letter, AllocError>
-        ensures { IfOk result (λ letter. letter ≡ ask u.now holder (FetchAsk self.now.user self.now.id self.now.at self.now.most)) }
+    // Asks this holder; the others of those that are left stay so. It takes no memory.
+    #[tactic(auto, using(crate::proofs::Spares::some_left, crate::proofs::Spares::fewer_left, crate::proofs::Spares::all_but_one))]
+    fn ask_holder(&mut self, u: &Under, left: NodeSet, holder: NodeNo) -> Letter
+        requires enough { count_in left ≤ fetch_chances self.old.stage }
+        requires inside { has left holder ≡ true }
+        ensures { fetch_did self.new (result ∷ []) ≡ asks_first u.now self.old left (Some holder) }
     {
-        let body = Body::FetchAsk {
-            user: self.user.copy()?,
-            id: self.id,
-            from: self.from,
-            most: self.most,
-        };
-        Ok(ask(u, holder, body))
-    }
-
-    // Asks this holder; the others of those that are left stay so.
-    fn ask_holder(
-        &mut self,
-        u: &Under,
-        left: NodeSet,
-        holder: NodeNo,
-    ) -> Result<Option<Letter>, AllocError>
-        ensures ok { IfOk result (λ letter. fetch_did self.new (listed letter) ≡ asks_first u.now self.old left (Some holder)) }
-        ensures err { OnErr result (self.new ≡ self.old) }
-    {
-        let letter = self.ask_for(u, holder)?;
+        let user = take_one(&mut self.spares);
         self.stage = FetchStage::AsksHolder {
             holder,
             left: left.without(holder),
         };
-        Ok(Some(letter))
+        let body = Body::FetchAsk {
+            user,
+            id: self.id,
+            from: self.from,
+            most: self.most,
+        };
+        ask(u, holder, body)
     }
 
-    /// Asks the lowest holder that is left; where there is none, nobody is left.
-    ///
-    /// # Errors
-    ///
-    /// Out of memory alone; all is then as before.
-    #[tactic(auto, using(crate::proofs::Stages::asked_first))]
-    pub(crate) fn ask_next(
-        &mut self,
-        u: &Under,
-        left: NodeSet,
-    ) -> Result<Option<Letter>, AllocError>
-        ensures ok { IfOk result (λ letter. fetch_did self.new (listed letter) ≡ ask_next u.now self.old left) }
-        ensures err { OnErr result (self.new ≡ self.old) }
+    /// Asks the lowest holder that is left; where there is none, nobody is left. Those that are left are as many at most as were. It
+    /// takes no memory.
+    #[tactic(auto, using(crate::proofs::Stages::asked_first, crate::proofs::Spares::first_inside))]
+    pub(crate) fn ask_next(&mut self, u: &Under, left: NodeSet) -> Option<Letter>
+        requires { count_in left ≤ fetch_chances self.old.stage }
+        ensures { fetch_did self.new (listed result) ≡ ask_next u.now self.old left }
     {
         match lowest_other(u.own, left) {
-            Some(holder) => self.ask_holder(u, left, holder),
+            Some(holder) => Some(self.ask_holder(u, left, holder)),
             None => {
                 self.stage = FetchStage::NobodyLeft;
-                Ok(None)
+                None
             }
         }
     }
@@ -171,19 +219,25 @@ impl Fetch {
         }
     }
 
-    /// A mishap at a node: the next holder is asked, where the fetch waits for the node.
-    ///
-    /// # Errors
-    ///
-    /// Out of memory alone; all is then as before.
-    #[tactic(auto, using(crate::proofs::Stages::fetch_befell_is))]
-    pub(crate) fn befell(&mut self, u: &Under, at: NodeNo) -> Result<Option<Letter>, AllocError>
-        ensures ok { IfOk result (λ letter. fetch_did self.new (listed letter) ≡ fetch_befell u.now at self.old self.old.stage) }
-        ensures err { OnErr result (self.new ≡ self.old) }
+    /// A mishap at a node: the next holder is asked, where the fetch waits for the node. It takes no memory.
+    #[tactic(auto, using(crate::proofs::Stages::fetch_befell_is, crate::proofs::Spares::left_after_fewer))]
+    pub(crate) fn befell(&mut self, u: &Under, at: NodeNo) -> Option<Letter>
+        ensures { fetch_did self.new (listed result) ≡ fetch_befell u.now at self.old self.old.stage }
     {
         match self.left_after(at) {
             Some(left) => self.ask_next(u, left),
-            None => Ok(None),
+            None => None,
+        }
+    }
+
+    /// How many letters mishaps may still send for it: one to each holder that is left.
+    pub(crate) fn chances(&self) -> u32
+        ensures { result ≡ fetch_chances self.now.stage }
+    {
+        match &self.stage {
+            FetchStage::AsksHolder { holder: _, left } => left.count(),
+            FetchStage::IsAnswered { .. } => 0,
+            FetchStage::NobodyLeft => 0,
         }
     }
 
@@ -205,6 +259,7 @@ impl Fetch {
     {
         let Fetch {
             user: _user,
+            spares: _spares,
             id: _,
             from: _,
             most: _,

@@ -11,9 +11,13 @@
 //! As proxy: `begin_login` asks a manager, `begin_own_login` takes the node's own word at once where it manages
 //! the user itself, `begin_fetch` asks the lowest holder, and `begin_own_fetch` takes the node's own part.
 //! `hear_word`, `hear_list` and `hear_part` take what LoginTold, ListTold and FetchTold say; `mishap` notes that
-//! a letter was lost; `give_up` takes a ticket out. `stands` says whether one does, and `user` whose login it is.
-//! `ask` says how far a call has come. One that is done it answers and takes out: with the listing of what the
-//! named nodes told, joined; with the octets of a part; or with the mishaps for which it failed.
+//! a letter was lost; `give_up` takes a ticket out. `ask` says how far a call has come. One that is done it answers
+//! and takes out: with the listing of what the named nodes told, joined; with the octets of a part; or with the
+//! mishaps for which it failed.
+//!
+//! Of a ticket: `stands` says whether there is one, `kind` of which kind its call is, `user` whose login it is,
+//! `managed_user` the same where the node itself is the manager, `is_done` whether `ask` has an answer, and `chances`
+//! how many letters mishaps may still send for it.
 //!
 //! As manager and holder: `judge` gives the word of a manager by the plan's secret, and `answer_login`,
 //! `answer_list` and `answer_fetch` are the letters that answer. `leave` gives a lock back at the end of a
@@ -32,7 +36,8 @@
 //! is not waited for, so also a second one; a part for a fetch that has one; and whatever answers a ticket that
 //! does not stand, or is that of another kind of call.
 //!
-//! Each call that takes memory leaves the tickets as before where there is none.
+//! Each call that takes memory leaves the tickets as before where there is none. `mishap`, `hear_part` and `give_up`
+//! take none: a login has a second copy of its user's name, and a fetch one for each holder that is left.
 //!
 //! STANDS ON
 //!

@@ -1,5 +1,6 @@
 //! How far a login has come.
-ghost use Rattle.std.specs.Prelude.{◌≡◌, [], List, None, map, IfOk, OnOk, OnErr};
+ghost use Rattle.std.specs.Prelude.{◌≡◌, true, [], List, Some, None, map, nat_eq, IfOk, OnOk, OnErr, if◌then◌else◌};
+ghost use Rattle.std.specs.Option.{option_copied};
 ghost use Rattle.mail_base.specs.Bodies.{word_seen};
 ghost use Rattle.object_model.specs.Letters as plain;
 ghost use Rattle.object_model.specs.Mishaps as befell;
@@ -7,7 +8,7 @@ ghost use Rattle.object_model.specs.Letters.LoginWord.{Named as NamedNodes};
 ghost use Rattle.login_model.specs.Readings.LoginStage.{AsksManager};
 ghost use Rattle.login_model.specs.Rules as rules;
 ghost use Rattle.login_model.specs.Rules.{take_word, word_at, list_at, fail, login_befell, given_up};
-ghost use Rattle.login_model.specs.Progress.{login_ask};
+ghost use Rattle.login_model.specs.Progress.{login_ask, login_chances};
 ghost use Rattle.login_model.specs.Progress.ReadAnswer.{Denies};
 ghost use Rattle.node_tickets.specs.Seen.{mishaps_seen};
 ghost use Rattle.told_lists.specs.Joining.{login_item};
@@ -47,10 +48,12 @@ pub(crate) enum LoginStage {
     HasFailed,
 }
 
-/// A login: its user, the user's manager, and how far it has come.
+/// A login: its user, the user's manager, and how far it has come. A contract sees no more.
 #[derive(Drop)]
 pub(crate) struct Login {
     user: Name,
+    // a copy of the name, so that to fail takes no memory
+    spare: Option<Name>,
     manager: NodeNo,
     stage: LoginStage,
 }
@@ -58,10 +61,13 @@ pub(crate) struct Login {
 impl Model for Login {
     ghost use Rattle.login_model.specs.Readings.{Login as Seen};
     ghost use Rattle.node_reads.specs.LoginStages.{login_stage_seen};
+    ghost use Rattle.node_reads.specs.Readings.{HasSpare};
 
     ghost Value = { Seen };
 
     ghost view = { λ l. record { user = l.user; manager = l.manager; stage = login_stage_seen l.stage } };
+
+    ghost invariant = { λ l. HasSpare (login_stage_seen l.stage) l.user l.spare };
 }
 
 // Why a login was not let in, as its answer.
@@ -77,14 +83,20 @@ fn denied(denial: &Denial, manager: NodeNo) -> Answer
 
 impl Login {
     /// A login that asks the manager.
-    pub(crate) fn new(user: Name, manager: NodeNo) -> Login
-        ensures { result ≡ record { user = user; manager = manager; stage = AsksManager } }
+    ///
+    /// # Errors
+    ///
+    /// Out of memory alone.
+    pub(crate) fn new(user: Name, manager: NodeNo) -> Result<Login, AllocError>
+        ensures { IfOk result (λ login. login ≡ record { user = user; manager = manager; stage = AsksManager }) }
     {
-        Login {
+        let spare = Some(user.copy()?);
+        Ok(Login {
             user,
+            spare,
             manager,
             stage: LoginStage::AsksManager,
-        }
+        })
     }
 
     /// Its user.
@@ -92,6 +104,29 @@ impl Login {
         ensures { result.now ≡ self.now.user }
     {
         &self.user
+    }
+
+    /// Its user, where this node is its manager.
+    pub(crate) fn managed_user(&self, own: NodeNo) -> Option<&Name>
+        ensures { option_copied result ≡ (if nat_eq self.now.manager own then Some self.now.user else None) }
+    {
+        if self.manager == own {
+            Some(&self.user)
+        } else {
+            None
+        }
+    }
+
+    /// How many letters mishaps may still send for it.
+    pub(crate) fn chances(&self) -> u32
+        ensures { result ≡ login_chances self.now.stage }
+    {
+        match &self.stage {
+            LoginStage::AsksManager => 1,
+            LoginStage::IsDenied(_) => 0,
+            LoginStage::AsksNodes(_) => 1,
+            LoginStage::HasFailed => 0,
+        }
     }
 
     // The manager lets it in: the nodes that it names are asked, and the own node tells its list at once.
@@ -102,6 +137,7 @@ impl Login {
         named: NodeSet,
         mine: Sequence<ToldItem>,
     ) -> Result<Sequence<Letter>, AllocError>
+        requires { may_hold_lock self.old.stage ≡ true }
         ensures ok { IfOk result (λ letters. login_did self.new letters ≡ take_word u.now self.old mine (NamedNodes named)) }
         ensures err { OnErr result (self.new ≡ self.old) }
     {
@@ -119,7 +155,7 @@ impl Login {
         self.stage = LoginStage::IsDenied(denial);
     }
 
-    /// What its manager told is taken.
+    /// What its manager told is taken, by a login that has not failed and was not denied.
     ///
     /// # Errors
     ///
@@ -131,6 +167,7 @@ impl Login {
         word: LoginWord,
         mine: Sequence<ToldItem>,
     ) -> Result<Sequence<Letter>, AllocError>
+        requires { may_hold_lock self.old.stage ≡ true }
         ensures ok { IfOk result (λ letters. login_did self.new letters ≡ take_word u.now self.old mine (word_seen word)) }
         ensures err { OnErr result (self.new ≡ self.old) }
     {
@@ -160,7 +197,7 @@ impl Login {
     /// # Errors
     ///
     /// Out of memory alone; all is then as before.
-    #[tactic(auto, using(crate::proofs::Stages::word_is))]
+    #[tactic(auto, using(crate::proofs::Stages::word_is, crate::proofs::Stages::asks_may_hold))]
     pub(crate) fn hear_word(
         &mut self,
         alloc: Global,
@@ -211,28 +248,27 @@ impl Login {
         }
     }
 
-    // It fails, and its manager gets the lock back.
-    fn fail(&mut self, u: &Under) -> Result<Option<Letter>, AllocError>
-        ensures ok { IfOk result (λ letter. login_did self.new (listed letter) ≡ fail u.now self.old) }
-        ensures err { OnErr result (self.new ≡ self.old) }
+    // It fails, and its manager gets the lock back. It takes no memory.
+    #[tactic(auto, using(crate::proofs::Stages::spare_is))]
+    fn fail(&mut self, u: &Under) -> Option<Letter>
+        requires { may_hold_lock self.old.stage ≡ true }
+        ensures { login_did self.new (listed result) ≡ fail u.now self.old }
     {
-        let user = self.user.copy()?;
+        let spare = self.spare.take();
         self.stage = LoginStage::HasFailed;
-        Ok(unlock(u, user, self.manager))
+        match spare {
+            Some(user) => unlock(u, user, self.manager),
+            None => unreachable!(),
+        }
     }
 
-    /// A mishap at a node: the login fails, where it waits for the node.
-    ///
-    /// # Errors
-    ///
-    /// Out of memory alone; all is then as before.
-    #[tactic(auto, using(crate::proofs::Stages::login_befell_is))]
-    pub(crate) fn befell(&mut self, u: &Under, at: NodeNo) -> Result<Option<Letter>, AllocError>
-        ensures ok { IfOk result (λ letter. login_did self.new (listed letter) ≡ login_befell u.now at self.old self.old.stage) }
-        ensures err { OnErr result (self.new ≡ self.old) }
+    /// A mishap at a node: the login fails, where it waits for the node. It takes no memory.
+    #[tactic(auto, using(crate::proofs::Stages::login_befell_is, crate::proofs::Stages::waits_may_hold))]
+    pub(crate) fn befell(&mut self, u: &Under, at: NodeNo) -> Option<Letter>
+        ensures { login_did self.new (listed result) ≡ login_befell u.now at self.old self.old.stage }
     {
         if !self.waits_for(at) {
-            return Ok(None);
+            return None;
         }
         self.fail(u)
     }

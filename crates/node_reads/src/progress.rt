@@ -7,10 +7,10 @@ ghost use Rattle.object_model.specs.Letters.Body.{LoginTold, ListTold, FetchTold
 ghost use Rattle.object_model.specs.Mishaps.{no_mishaps};
 ghost use Rattle.login_model.specs.Rules as rules;
 ghost use Rattle.login_model.specs.Rules.{befell, give_up};
-ghost use Rattle.login_model.specs.Progress.{ask_read};
+ghost use Rattle.login_model.specs.Progress.{ask_read, chances};
 ghost use Rattle.told_lists.specs.Joining.{login_item};
 ghost use Rattle.node_tickets.specs.Seen.{kind_of_mishap};
-ghost use Rattle.node_reads.specs.Asking.{DoneAs, ReadingLists, pending_of};
+ghost use Rattle.node_reads.specs.Asking.{DoneAs, ReadingLists, pending_of, is_done, kind_of, managed_user};
 ghost use Rattle.node_reads.specs.Seen.{reading_seen};
 ghost use Rattle.node_reads.specs.Readings.{listed, user_of_login};
 ghost use Rattle.node_reads.specs.Tickets.{ticket_did, ticket_told, ticket_befell};
@@ -21,7 +21,9 @@ use crate::login::Login;
 use crate::mishaps::{count, none};
 use crate::under::Under;
 use call_tickets::{Answer, Ask, Mishaps};
-use mail_base::{Items, Letter, LoginWord, Name, NodeNo, Sequence, Ticket, ToldItem, ToldPart};
+use mail_base::{
+    CallKind, Items, Letter, LoginWord, Name, NodeNo, Sequence, Ticket, ToldItem, ToldPart,
+};
 use node_tickets::MishapKind;
 use std::alloc::{AllocError, Global};
 use std::marker::Model;
@@ -68,6 +70,36 @@ impl ReadProgress {
         match &self.reading {
             Reading::LogsIn(login) => Some(login.user()),
             Reading::Fetches(_) => None,
+        }
+    }
+
+    /// The user of a login that this node manages.
+    pub(crate) fn managed_user(&self, own: NodeNo) -> Option<&Name>
+        ensures { option_copied result ≡ managed_user own self.now.reading }
+    {
+        match &self.reading {
+            Reading::LogsIn(login) => login.managed_user(own),
+            Reading::Fetches(_) => None,
+        }
+    }
+
+    /// The kind of its call.
+    pub(crate) fn kind(&self) -> CallKind
+        ensures { result ≡ kind_of self.now.reading }
+    {
+        match &self.reading {
+            Reading::LogsIn(_) => CallKind::Login,
+            Reading::Fetches(_) => CallKind::Fetch,
+        }
+    }
+
+    /// How many letters mishaps may still send for it.
+    pub(crate) fn chances(&self) -> u32
+        ensures { result ≡ chances self.now.reading }
+    {
+        match &self.reading {
+            Reading::LogsIn(login) => login.chances(),
+            Reading::Fetches(fetch) => fetch.chances(),
         }
     }
 
@@ -123,9 +155,8 @@ impl ReadProgress {
     }
 
     // A mishap at a node befalls the call.
-    fn fail(&mut self, u: &Under, at: NodeNo) -> Result<Option<Letter>, AllocError>
-        ensures ok { IfOk result (λ letter. record { ticket = self.new; out = listed letter } ≡ ticket_did self.old.mishaps (befell u.now at self.old.reading)) }
-        ensures err { OnErr result (self.new ≡ self.old) }
+    fn fail(&mut self, u: &Under, at: NodeNo) -> Option<Letter>
+        ensures { record { ticket = self.new; out = listed result } ≡ ticket_did self.old.mishaps (befell u.now at self.old.reading) }
     {
         match &mut self.reading {
             Reading::LogsIn(login) => login.befell(u, at),
@@ -133,23 +164,13 @@ impl ReadProgress {
         }
     }
 
-    /// A mishap is counted; a login that waits for the node fails, and a fetch that does asks the next holder.
-    ///
-    /// # Errors
-    ///
-    /// Out of memory alone; the ticket is then as before.
-    pub(crate) fn befell(
-        &mut self,
-        u: &Under,
-        kind: MishapKind,
-        at: NodeNo,
-    ) -> Result<Option<Letter>, AllocError>
-        ensures ok { IfOk result (λ letter. record { ticket = self.new; out = listed letter } ≡ ticket_befell u.now (kind_of_mishap kind) at self.old) }
-        ensures err { OnErr result (self.new ≡ self.old) }
+    /// A mishap is counted; a login that waits for the node fails, and a fetch that does asks the next holder. It takes no memory.
+    pub(crate) fn befell(&mut self, u: &Under, kind: MishapKind, at: NodeNo) -> Option<Letter>
+        ensures { record { ticket = self.new; out = listed result } ≡ ticket_befell u.now (kind_of_mishap kind) at self.old }
     {
-        let letter = self.fail(u, at)?;
+        let letter = self.fail(u, at);
         count(&mut self.mishaps, kind);
-        Ok(letter)
+        letter
     }
 
     /// It is given up. It takes no memory.
@@ -170,6 +191,13 @@ impl ReadProgress {
             Reading::LogsIn(login) => login.pending(),
             Reading::Fetches(fetch) => fetch.pending(),
         }
+    }
+
+    /// Whether the call is done.
+    pub(crate) fn is_done(&self) -> bool
+        ensures { result ≡ is_done self.now }
+    {
+        !self.pending().is_some()
     }
 
     /// The listing of a login; no messages where the call is none.

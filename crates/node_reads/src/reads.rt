@@ -15,6 +15,7 @@ ghost use Rattle.login_model.specs.Rules as rules;
 ghost use Rattle.login_model.specs.Rules.{begin_login, begin_fetch};
 ghost use Rattle.node_tickets.specs.Seen.{kind_of_mishap};
 ghost use Rattle.node_reads.specs.Seen.{reading_seen};
+ghost use Rattle.node_reads.specs.Asking.{done_at, kind_at, chances_at, managed_user_at};
 ghost use Rattle.node_reads.specs.Readings.{listed, user_at};
 ghost use Rattle.node_reads.specs.Tables.{seen, reads_in, IsOf, is_own, ticket_at, Begins, Hears, Befalls, GivesUp, Asks};
 ghost use Rattle.node_reads.specs.Tickets.{ticket_told, ticket_befell, did_if_stands, taken_if_stands, letters_given_up};
@@ -27,8 +28,8 @@ use crate::progress::{ReadProgress, Reading};
 use crate::under::Under;
 use call_tickets::Ask;
 use mail_base::{
-    Body, EpochId, Letter, LoginWord, MsgId, Name, NodeNo, NodeSet, Proof, Sequence, Ticket,
-    ToldItem, ToldPart,
+    Body, CallKind, EpochId, Letter, LoginWord, MsgId, Name, NodeNo, NodeSet, Proof, Sequence,
+    Ticket, ToldItem, ToldPart,
 };
 use node_tickets::MishapKind;
 use std::alloc::{AllocError, Global};
@@ -129,13 +130,12 @@ fn befell_at(
     u: &Under,
     kind: MishapKind,
     at: NodeNo,
-) -> Result<Option<Letter>, AllocError>
-    ensures ok { IfOk result (λ letter. did_if_stands (ticket_befell u.now (kind_of_mishap kind) at) (seen entries.old.entries) seq (fin.get (seen entries.old.entries) seq) ≡ record { reads = seen entries.new.entries; out = listed letter }) }
-    ensures err { OnErr result (seen entries.new.entries ≡ seen entries.old.entries) }
+) -> Option<Letter>
+    ensures { did_if_stands (ticket_befell u.now (kind_of_mishap kind) at) (seen entries.old.entries) seq (fin.get (seen entries.old.entries) seq) ≡ record { reads = seen entries.new.entries; out = listed result } }
 {
     match entries.get_mut(&seq) {
         Some(progress) => progress.befell(u, kind, at),
-        None => Ok(None),
+        None => None,
     }
 }
 
@@ -204,6 +204,48 @@ impl NodeReads {
         }
     }
 
+    /// Whose lock the own node lets go, where a login fails or is given up: the user of a login that the node manages itself; nothing
+    /// where no such login stands under the number. It takes no memory.
+    pub fn managed_user(&self, ticket: Ticket) -> Option<&Name>
+        ensures { option_copied result ≡ managed_user_at self.now.own (ticket_at self.now ticket) }
+    {
+        match self.find(ticket) {
+            Some(progress) => progress.managed_user(self.own),
+            None => None,
+        }
+    }
+
+    /// The kind of the call, if the ticket stands. It takes no memory.
+    pub fn kind(&self, ticket: Ticket) -> Option<CallKind>
+        ensures { result ≡ kind_at (ticket_at self.now ticket) }
+    {
+        match self.find(ticket) {
+            Some(progress) => Some(progress.kind()),
+            None => None,
+        }
+    }
+
+    /// Whether a ticket stands under the number whose call is done: an ask of it has an answer. It takes no memory.
+    pub fn is_done(&self, ticket: Ticket) -> bool
+        ensures { result ≡ done_at (ticket_at self.now ticket) }
+    {
+        match self.find(ticket) {
+            Some(progress) => progress.is_done(),
+            None => false,
+        }
+    }
+
+    /// How many letters mishaps may still send for the call; none where no ticket stands under the number. Each such letter is one
+    /// less. It takes no memory.
+    pub fn chances(&self, ticket: Ticket) -> u32
+        ensures { result ≡ chances_at (ticket_at self.now ticket) }
+    {
+        match self.find(ticket) {
+            Some(progress) => progress.chances(),
+            None => 0,
+        }
+    }
+
     // What a call that begins at this node sends its letters under.
     fn next_under(&self, epoch: EpochId, seq: u64) -> Under
         ensures { result ≡ record { own = self.now.own; epoch = epoch; number = record { node = self.now.own; boot = self.now.boot; seq = seq } } }
@@ -248,7 +290,7 @@ impl NodeReads {
             user: user.copy()?,
             proof,
         };
-        self.put(seq, Reading::LogsIn(Login::new(user, manager)))?;
+        self.put(seq, Reading::LogsIn(Login::new(user, manager)?))?;
         Ok(ask(&u, manager, asked))
     }
 
@@ -273,7 +315,7 @@ impl NodeReads {
         ensures whose { IsOf self.old.own self.old.boot self.new }
     {
         let u = self.next_under(epoch, seq);
-        let mut login = Login::new(user, self.own);
+        let mut login = Login::new(user, self.own)?;
         let letters = login.take_word(alloc, &u, word, mine)?;
         self.put(seq, Reading::LogsIn(login))?;
         Ok(letters)
@@ -287,6 +329,7 @@ impl NodeReads {
     /// Out of memory alone; the tickets are then as before.
     pub fn begin_fetch(
         &mut self,
+        alloc: Global,
         epoch: EpochId,
         seq: u64,
         user: Name,
@@ -301,8 +344,8 @@ impl NodeReads {
         ensures whose { IsOf self.old.own self.old.boot self.new }
     {
         let u = self.next_under(epoch, seq);
-        let mut fetch = Fetch::new(user, id, from, most);
-        let letter = fetch.ask_next(&u, holders)?;
+        let mut fetch = Fetch::new(alloc, self.own, user, id, from, most, holders)?;
+        let letter = fetch.ask_next(&u, holders);
         self.put(seq, Reading::Fetches(fetch))?;
         Ok(letter)
     }
@@ -315,6 +358,7 @@ impl NodeReads {
     /// Out of memory alone; the tickets are then as before.
     pub fn begin_own_fetch(
         &mut self,
+        alloc: Global,
         seq: u64,
         user: Name,
         id: MsgId,
@@ -326,8 +370,7 @@ impl NodeReads {
         ensures err { OnErr result (reads_in self.new ≡ reads_in self.old) }
         ensures whose { IsOf self.old.own self.old.boot self.new }
     {
-        let mut fetch = Fetch::new(user, id, from, most);
-        fetch.answer(self.own, part);
+        let fetch = Fetch::answered(alloc, user, id, from, most, self.own, part);
         self.put(seq, Reading::Fetches(fetch))
     }
 
@@ -397,24 +440,19 @@ impl NodeReads {
     }
 
     /// Notes a mishap of a letter to or from the node at this ticket. A login that waits for the node fails, and its manager gets
-    /// the lock back; a fetch that does asks the next holder. There is one letter at most.
-    ///
-    /// # Errors
-    ///
-    /// Out of memory alone; the tickets are then as before.
+    /// the lock back; a fetch that does asks the next holder. There is one letter at most. It takes no memory.
     pub fn mishap(
         &mut self,
         epoch: EpochId,
         ticket: Ticket,
         kind: MishapKind,
         at: NodeNo,
-    ) -> Result<Option<Letter>, AllocError>
-        ensures ok { IfOk result (λ letter. Befalls epoch ticket (kind_of_mishap kind) at (listed letter) self.old self.new) }
-        ensures err { OnErr result (reads_in self.new ≡ reads_in self.old) }
+    ) -> Option<Letter>
+        ensures did { Befalls epoch ticket (kind_of_mishap kind) at (listed result) self.old self.new }
         ensures whose { IsOf self.old.own self.old.boot self.new }
     {
         if !self.is_own(ticket) {
-            return Ok(None);
+            return None;
         }
         let u = Under {
             own: self.own,

@@ -181,7 +181,7 @@ fn note_loss(
     let Some(number) = letter.ticket else {
         return Ok(None);
     };
-    site.mishap(epoch(), number, kind, far_end(letter))
+    Ok(site.mishap(epoch(), number, kind, far_end(letter)))
 }
 
 fn log_in(
@@ -212,12 +212,21 @@ fn fetch(alloc: Global, site: &mut NodeReads, holders: u16) -> Result<Option<Let
     if holders.has(site.own()) {
         return Err(AllocError);
     }
-    site.begin_fetch(epoch(), 2, ann(alloc)?, id_of(1, 1)?, 0, 100, holders)
+    site.begin_fetch(
+        alloc,
+        epoch(),
+        2,
+        ann(alloc)?,
+        id_of(1, 1)?,
+        0,
+        100,
+        holders,
+    )
 }
 
 fn fetch_at_home(alloc: Global, site: &mut NodeReads) -> Result<(), AllocError> {
     let part = part_of(alloc, 1)?;
-    site.begin_own_fetch(2, ann(alloc)?, id_of(1, 1)?, 0, 100, part)
+    site.begin_own_fetch(alloc, 2, ann(alloc)?, id_of(1, 1)?, 0, 100, part)
 }
 
 // Node 1 hears for its login that this node names all.

@@ -25,4 +25,4 @@ returns-clause-ok c = λ word mine.
     ∙ ap (λ (v : Under). ask v c.args.manager (LoginAsk c.in_ok-copy.field-0 proof)) c.next_under-u.ensures
     ∙ ap (λ (n : List ℕ). ask u c.args.manager (LoginAsk n proof)) c.in_ok-copy.ensures)
     ∙ asks_other u c.args.user proof c.args.manager word mine c.requires)
-    (c.in_ok-put.ensures.ok ∙ ap (λ (l : Login). fin.insert (reads_in old) c.args.seq (record { reading = LogsIn l; mishaps = no_mishaps })) c.new.ensures)
+    (c.in_ok-put.ensures.ok ∙ ap (λ (l : Login). fin.insert (reads_in old) c.args.seq (record { reading = LogsIn l; mishaps = no_mishaps })) c.in_ok-new.ensures)

@@ -13,7 +13,7 @@ returns-clause-ok c = λ proof.
     let u : Under = record { own = old.own; epoch = c.args.epoch; number = record { node = old.own; boot = old.boot; seq = c.args.seq } } in
     begins old c.put.new.self c.put.ensures.whose.boot_is c.args.epoch c.args.seq (λ v. begin_login v c.args.user proof old.own word c.args.mine) (LogsIn c.take_word.new.self) c.in_ok-letters.letters
     (c.in_ok-letters.ensures.ok
-    ∙ ap (λ (v : Under). take_word v c.new-login.result c.args.mine word) c.next_under-u.ensures
-    ∙ ap (λ (l : Login). take_word u l c.args.mine word) c.new-login.ensures
+    ∙ ap (λ (v : Under). take_word v c.in_ok-login.login c.args.mine word) c.next_under-u.ensures
+    ∙ ap (λ (l : Login). take_word u l c.args.mine word) c.in_ok-login.ensures
     ∙ takes_own_word u c.args.user proof word c.args.mine)
     c.in_ok-put.ensures.ok

@@ -1,0 +1,11 @@
+pub mod Views
+pub mod Keeping
+pub mod Calm
+pub mod Beside
+pub mod Rules
+pub mod Putting
+pub mod Reading
+pub mod Standing
+pub mod Opening
+pub mod Told
+pub mod Ending

@@ -1,0 +1,11 @@
+pub mod World
+pub mod Rules
+pub mod Putting
+pub mod Steps
+pub mod Staying
+pub mod Makes
+pub mod Seen
+pub mod Laws
+pub mod First
+pub mod Told
+pub mod Ending
