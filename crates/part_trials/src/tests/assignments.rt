@@ -107,6 +107,9 @@ fn map_of(alloc: Global, managers: &[u8]) -> Result<UserMap, AllocError> {
         let node = NodeNo::new(*number).ok_or(AllocError)?;
         rows.push(MapRow::new(node, EpochId::new(1, 1)))?;
     }
+    if rows.len() > 16 {
+        return Err(AllocError);
+    }
     Ok(UserMap::from_rows(rows))
 }
 
