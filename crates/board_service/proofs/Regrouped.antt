@@ -42,5 +42,5 @@ module _ {D : Type 0} (on : View D) where
 
   pub regroups_add : (n : ℕ) (result : Result Regroup StepFault) (old new : World D) → IsSoundWorld on old → Regroups on n result old new → AddsTo AreQuiet old new
   regroups_add n result old new c (inl (steps, made)) =
-      all_add n steps old new made.of (record { w = c.plain; stands = c.stands; in_plan = c.in_plan; sound = c.sound; tickets = c.tickets; whole = c.whole }) made.made
+      all_add n steps old new made.of (record { w = c.plain; stands = c.stands; in_plan = c.in_plan; sound = c.sound; tickets = c.tickets }) made.made
   regroups_add n result old new c (inr (short, same)) = same_world_adds old new same

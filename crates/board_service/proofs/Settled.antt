@@ -44,5 +44,5 @@ module _ {D : Type 0} (on : View D) where
 
   pub settles_add : (result : Result Settle StepFault) (old new : World D) → disks_tell on.seen old ≡ true → IsSoundWorld on old → Settles on result old new → AddsTo AreQuiet old new
   settles_add result old new tell c (inl s) =
-      all_add s.makes.steps old new tell s.makes.of (record { w = c.plain; stands = c.stands; in_plan = c.in_plan; sound = c.sound; tickets = c.tickets; whole = c.whole }) s.makes.made
+      all_add s.makes.steps old new tell s.makes.of (record { w = c.plain; stands = c.stands; in_plan = c.in_plan; sound = c.sound; tickets = c.tickets }) s.makes.made
   settles_add result old new tell c (inr (short, same)) = same_world_adds old new same

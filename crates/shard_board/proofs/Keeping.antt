@@ -19,8 +19,6 @@ use Rattle.cluster_world.specs.Steps.{IsStep, IsBlind, StepIsKnown}
 use Rattle.cluster_world.specs.Ended.{IsEnded}
 use Rattle.cluster_world.specs.Seen.{step_seen, outcome_seen}
 use Rattle.cluster_world.specs.Made.{StepMade, MakesSteps, PostsAll, IsOfRegroup, AreOfRegroup, has_failed}
-use Rattle.cluster_world.specs.Opens.{IsAtBeginning}
-use Rattle.cluster_world.specs.Sound.{IsWhole}
 use Rattle.cluster_world.specs.Settling.{IsOfSettle, AreOfSettle}
 use Rattle.cluster_world.specs.Settling.IsOfSettle.{Posts, Pushes, Reports}
 use Rattle.cluster_world.specs.declared.settling.Settle.{Settle}
@@ -31,11 +29,9 @@ use Rattle.cluster_world.specs.declared.step.Said.{Said}
 use Rattle.cluster_world.specs.declared.regrouping.Regroup.{Regroup}
 use Rattle.cluster_world.specs.declared.fault.StepFault.{StepFault}
 use Rattle.cluster_world.proofs.Chained.{tells_alike}
-use Rattle.cluster_world.proofs.Righted.{rests_right}
-use Rattle.cluster_world.proofs.Wholes.{step_whole, world_is_whole}
 use Rattle.shard_board.specs.Deeds.{Regroups, Settles, is_blind}
 use Rattle.shard_board.specs.Pages.{is_known_over}
-use Rattle.shard_board.specs.Worlds.{KeepsWorld, AllKnown, StepsKeepWorld, FlowsKeepWorld, OpenedIsSound, SoundRestsRight}
+use Rattle.shard_board.specs.Worlds.{KeepsWorld, AllKnown, StepsKeepWorld, FlowsKeepWorld, OpenedIsSound}
 
 -- disks of which each tells what it holds
 pub all_tell : {D : Type 0} (seen : D → Option (List ℕ)) → ((disk : D) → is_some (seen disk) ≡ true) → (disks : List D) → list_all (λ disk. is_some (seen disk)) disks ≡ true
@@ -103,7 +99,6 @@ module _ {D : Type 0} (on : View D) where
     pub in_plan : InPlan (plan_of world).nodes w.slots
     pub sound : Sound (plan_of world).confirm (cluster_of w)
     pub tickets : TicketsAskOneThing w.slots
-    pub whole : IsWhole on (plan_of world) world
 
   -- what stays, but that the world can make steps
   pub record Stays (old new : World D) : Type 0 where
@@ -126,17 +121,6 @@ module _ {D : Type 0} (on : View D) where
     sound = λ s. q.sound (p.sound s);
   }
 
-  -- the whole machine
-  begins_whole : (plan : Plan) (world : World D) → IsAtBeginning on plan world → IsWhole on (plan_of world) world
-  begins_whole plan world begins = subst (λ (p : Plan). IsWhole on p world) (sym begins.plan_is)
-      (world_is_whole on plan [] [] [] world world (record { begins = begins; known = inr tt; makes = (refl, refl); sessions = λ one among. absurd among }))
-
-  step_keeps_whole : (result : Result Said StepFault) (step : Step) (old new : World D) → StepIsKnown on.seen (state_of old) step → IsEnded step → IsStep on result step old new
-      → IsWhole on (plan_of old) old → IsWhole on (plan_of new) new
-  step_keeps_whole result step old new known ended is h =
-      let s = step_whole on (plan_of old) (disks_tell on.seen old) result step old new (record { plan_is = refl; told_is = refl }) known ended is h.v h.sound h.charted h.stands in
-      subst (λ (p : Plan). IsWhole on p new) (sym is.did.plan) (record { v = s.now; sound = s.sound; charted = s.charted; stands = s.stands })
-
   pub step_stays : (result : Result Said StepFault) (step : Step) (old new : World D) → StepIsKnown on.seen (state_of old) step → IsEnded step → IsStep on result step old new → Stays old new
   step_stays result step old new known ended is = record {
     plan = is.did.plan;
@@ -151,7 +135,6 @@ module _ {D : Type 0} (on : View D) where
           in_plan = subst (λ (p : Plan). InPlan p.nodes l.next.slots) (sym is.did.plan) both.0;
           sound = subst (λ (p : Plan). Sound p.confirm (cluster_of l.next)) (sym is.did.plan) both.1;
           tickets = steps_ask_one_thing (plan_of old) (disks_tell on.seen old) s.w l.next (step_seen step) (outcome_seen result) l.made s.sound s.tickets;
-          whole = step_keeps_whole result step old new known ended is s.whole;
         };
   }
 
@@ -178,8 +161,8 @@ module _ {D : Type 0} (on : View D) where
     plan = s.plan;
     longer = s.longer;
     sound = λ c.
-        let sound = s.sound (record { w = c.plain; stands = c.stands; in_plan = c.in_plan; sound = c.sound; tickets = c.tickets; whole = c.whole }) in
-        record { ready = ready; plain = sound.w; stands = sound.stands; in_plan = sound.in_plan; sound = sound.sound; tickets = sound.tickets; whole = sound.whole };
+        let sound = s.sound (record { w = c.plain; stands = c.stands; in_plan = c.in_plan; sound = c.sound; tickets = c.tickets }) in
+        record { ready = ready; plain = sound.w; stands = sound.stands; in_plan = sound.in_plan; sound = sound.sound; tickets = sound.tickets };
   }
 
   pub keeps_step : (result : Result Said StepFault) (step : Step) (old new : World D) → StepIsKnown on.seen (state_of old) step → IsEnded step → CanMakeSteps on.seen new
@@ -234,11 +217,7 @@ module _ {D : Type 0} (on : View D) where
         in_plan = subst (λ (p : Plan). InPlan p.nodes (opening_world plan.nodes (first_map plan)).slots) (sym begins.plan_is) opens.0;
         sound = subst (λ (p : Plan). Sound p.confirm (cluster_of (opening_world plan.nodes (first_map plan)))) (sym begins.plan_is) opens.1;
         tickets = opening_asks_one_thing plan.nodes (first_map plan);
-        whole = begins_whole plan world begins;
       }
-
-  pub sound_rests_right : SoundRestsRight on
-  sound_rests_right world s rest = rests_right on (plan_of world) world s.whole rest
 
   -- what the machine does in a step is known, where it is blind or the disks tell
   pub known_so : (world : World D) (step : Step) → is_known_over on.seen (is_blind (plan_of world).nodes step) world ≡ true → StepIsKnown on.seen (state_of world) step

@@ -41,8 +41,7 @@
 //!   nothing a start is not known, nor a push or a settle among several nodes: whoever has seen one tells nothing any more.
 //! - `made_known` says that what a pass and those that it took in made is known. Each call but those three leaves it as it
 //!   is, and where it holds of the pass that closes the board, the world is sound.
-//! - `specs/Worlds.antt` has what stays of a world over known steps. The law is `steps_keep_world`. A sound world that is at rest
-//!   has right maps (`sound_rests_right`).
+//! - `specs/Worlds.antt` has what stays of a world over known steps. The law is `steps_keep_world`.
 //!
 //! DIAGNOSTICS
 //!
@@ -73,7 +72,5 @@ mod works;
 
 pub use board::{Board, BoardPass};
 pub use deed::Deed;
-pub use laws::{
-    flows_keep_world, opened_is_sound, passes_tell, sound_rests_right, steps_keep_world,
-};
+pub use laws::{flows_keep_world, opened_is_sound, passes_tell, steps_keep_world};
 pub use order::{Order, Told};

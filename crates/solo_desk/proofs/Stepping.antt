@@ -1,5 +1,5 @@
 -- What a step of a world over which a desk can be leaves and adds.
-use Rattle.std.proofs.Common.{◌≡◌, inr, List, [], ◌∷◌, ◌++◌, append-nil, Some, None, refl, sym, ap, ◌∙◌, subst, arith}
+use Rattle.std.proofs.Common.{◌≡◌, List, [], ◌∷◌, ◌++◌, append-nil, Some, None, refl, sym, ap, ◌∙◌, subst, arith}
 use Rattle.std.specs.Prelude.{Result, Err, ◌≤◌}
 use Rattle.mail_model.specs.Book.{BookEntry}
 use Rattle.mail_model.specs.Plan.{Plan}
@@ -16,15 +16,13 @@ use Rattle.cluster_world.specs.Ended.{IsEnded}
 use Rattle.cluster_world.specs.Opens.{IsAtBeginning}
 use Rattle.cluster_world.specs.Outcomes.{IsRefusal}
 use Rattle.cluster_world.specs.Seen.{step_seen, outcome_seen}
-use Rattle.cluster_world.specs.Sound.{IsWhole}
 use Rattle.cluster_world.specs.Steps.{IsStep, StepIsKnown, LeadsTo}
-use Rattle.cluster_world.specs.Worlds.{state_of, plan_of, book_of, tells_in, disks_tell, StandsFor, StateStandsFor, CanMakeSteps}
+use Rattle.cluster_world.specs.Worlds.{state_of, plan_of, book_of, tells_in, StandsFor, StateStandsFor, CanMakeSteps}
 use Rattle.cluster_world.specs.declared.world.World.{World}
 use Rattle.cluster_world.specs.declared.step.Step.{Step}
 use Rattle.cluster_world.specs.declared.step.Said.{Said}
 use Rattle.cluster_world.specs.declared.fault.StepFault.{StepFault}
 use Rattle.cluster_world.specs.declared.fault.StepFault.TheVariants as fault
-use Rattle.cluster_world.proofs.Wholes.{step_whole, world_is_whole}
 use Rattle.desk_model.specs.Added.{Adds, AreQuiet}
 use Rattle.desk_model.proofs.Tickets.{steps_ask_one_thing, opening_asks_one_thing}
 use Rattle.desk_model.proofs.Begun.{idle_steps_are_quiet}
@@ -35,17 +33,6 @@ module _ {D : Type 0} (on : View D) where
   pub led : (result : Result Said StepFault) (step : Step) (old new : World D) → IsStep on result step old new → StepIsKnown on.seen (state_of old) step → IsEnded step → (serves : CanServe on old)
       → LeadsTo on result step (state_of old) (state_of new) serves.w
   led result step old new is known ended serves = is.did.leads known ended serves.w serves.stands
-
-  -- the whole machine
-  begins_whole : (plan : Plan) (world : World D) → IsAtBeginning on plan world → IsWhole on (plan_of world) world
-  begins_whole plan world begins = subst (λ (p : Plan). IsWhole on p world) (sym begins.plan_is)
-      (world_is_whole on plan [] [] [] world world (record { begins = begins; known = inr tt; makes = (refl, refl); sessions = λ one among. absurd among }))
-
-  step_keeps_whole : (result : Result Said StepFault) (step : Step) (old new : World D) → StepIsKnown on.seen (state_of old) step → IsEnded step → IsStep on result step old new
-      → IsWhole on (plan_of old) old → IsWhole on (plan_of new) new
-  step_keeps_whole result step old new known ended is h =
-      let s = step_whole on (plan_of old) (disks_tell on.seen old) result step old new (record { plan_is = refl; told_is = refl }) known ended is h.v h.sound h.charted h.stands in
-      subst (λ (p : Plan). IsWhole on p new) (sym is.did.plan) (record { v = s.now; sound = s.sound; charted = s.charted; stands = s.stands })
 
   pub opened_serve : (plan : Plan) (world : World D) → IsAtBeginning on plan world → CanServe on world
   opened_serve plan world begins =
@@ -58,7 +45,6 @@ module _ {D : Type 0} (on : View D) where
         in_plan = subst (λ (p : Plan). InPlan p.nodes (opening_world plan.nodes (first_map plan)).slots) (sym begins.plan_is) opens.0;
         sound = subst (λ (p : Plan). Sound p.confirm (cluster_of (opening_world plan.nodes (first_map plan)))) (sym begins.plan_is) opens.1;
         tickets = opening_asks_one_thing plan.nodes (first_map plan);
-        whole = begins_whole plan world begins;
       }
 
   pub steps_serve : (result : Result Said StepFault) (step : Step) (old new : World D) → IsStep on result step old new → StepIsKnown on.seen (state_of old) step → IsEnded step
@@ -75,7 +61,6 @@ module _ {D : Type 0} (on : View D) where
         in_plan = subst (λ (p : Plan). InPlan p.nodes l.next.slots) (sym is.did.plan) both.0;
         sound = subst (λ (p : Plan). Sound p.confirm (cluster_of l.next)) (sym is.did.plan) both.1;
         tickets = steps_ask_one_thing plan tells serves.w l.next (step_seen step) (outcome_seen result) l.made serves.sound serves.tickets;
-        whole = step_keeps_whole result step old new known ended is serves.whole;
       }
 
   -- what the machine's book gets, the world's gets
