@@ -2,7 +2,7 @@
 """Tries the service with mail programs that people use, and takes its measure, over the program that was built.
 
     ./porcupine check examples/service.toml    # builds the program
-    bench/service.py try                       # smtplib, poplib, curl and swaks; many clients, silent ones, broken ones; regroups; each status
+    bench/service.py try                       # smtplib, poplib, curl and swaks; many clients, silent ones, broken ones; regroups and settles; each status
     bench/service.py kill [SECONDS [ROUNDS]]   # kill -9 under load; then each message that had its 250 has to stand on as many disks as confirm
     bench/service.py rates [FOLDER]            # messages a second, processor time, memory; the folder is on the disk to be measured
     bench/service.py syncs                     # how many syncs a message costs; it needs strace
@@ -388,6 +388,21 @@ def try_regroups():
         check("a service with lost nodes stops", service.stop()[0] == 0)
 
 
+def try_settles():
+    with Service(nodes=3, copies=2, confirm=2) as service:
+        check("three nodes take mail", all(code_at(service, node) == 250 for node in (1, 2, 3)))
+        check("the epoch settles", service.ask("settle") == "*0 settled")
+        check("the manager names all three", service.ask("maps alice") == "*0 maps alice at 2: 1 2 3")
+        check("a user without mail is at no node", service.ask("maps bob") == "*0 maps bob at 2:")
+        check("who is no user has no map", service.ask("maps nobody") == "! line 4 BadLine")
+        service.ask("lose 2")
+        check("nothing settles while a member is away", service.ask("settle") == "*0 not-all-up 2")
+        check("and a lost manager tells nothing", service.ask("maps alice") == "*0 maps alice none")
+        check("the others regroup", service.ask("group 1") == "*0 epoch 2.1 members 1 3")
+        check("and settle", service.ask("settle") == "*0 settled")
+        check("and the new manager names both", service.ask("maps alice") == "*0 maps alice at 3: 1 3")
+
+
 def try_all():
     with Service() as service:
         try_programs(service)
@@ -397,6 +412,7 @@ def try_all():
         check("three nodes take mail, each of it by two", len(names) == 60)
         try_silent(service)
     try_regroups()
+    try_settles()
     try_statuses()
 
 
