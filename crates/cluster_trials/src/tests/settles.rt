@@ -8,6 +8,7 @@ use crate::tests::groups::four;
 use crate::tests::steps::left_of;
 use crate::tests::{ann, make, node, opened, opened_over};
 use cluster_world::{OpenFault, World};
+use io_edge::Disk;
 use node_disk::MemoryDisk;
 use std::alloc::{AllocError, Global};
 use std::test::Fail;
@@ -123,12 +124,10 @@ fn disks_fail_as_a_cluster_settles(rt: HostRuntime) -> Result<(), Fail> {
 
 /// Whether a store has a record of a copy of ann's.
 fn shows(octets: &[u8]) -> bool {
-    let mut at = 0usize;
-    while at < octets.len() {
+    for at in 0..octets.len() {
         if octets[at..].starts_with(b"\x04\x02\x03ann") {
             return true;
         }
-        at += 1;
     }
     false
 }
@@ -146,12 +145,23 @@ fn holders(disks: &[MemoryDisk]) -> u16 {
     set
 }
 
+/// So many messages come, to one node after another.
+fn take<D: Disk>(alloc: Global, world: &mut World<D>, messages: u8) -> Result<(), AllocError>
+    requires { CanMakeSteps D.seen world.old }
+    ensures { CanMakeSteps D.seen world.new }
+{
+    if messages == 0 {
+        return Ok(());
+    }
+    take(alloc, world, messages - 1)?;
+    make(alloc, world, b'D', b'1' + (messages - 1) % 4, b'.')?;
+    Ok(())
+}
+
 /// Whom the manager of ann names, once messages came to so many nodes and the cluster has settled, and whose store shows one.
 fn named_and_shown(alloc: Global, messages: u8) -> Result<Option<(u16, u16)>, OpenFault> {
     let mut world = four(alloc)?;
-    for at in 0..messages {
-        make(alloc, &mut world, b'D', b'1' + at % 4, b'.')?;
-    }
+    take(alloc, &mut world, messages)?;
     if make(alloc, &mut world, b'Z', b'.', b'.')? != *b"st" {
         return Ok(None);
     }
