@@ -22,7 +22,7 @@ SHOWN = [('KeepsPromises', 'holds'), ('KeepsToClients', 'shown')]
 TAKE, READ, LOGGED = ('KeepsToClients', 'take_mail'), ('KeepsToClients', 'read_mail'), ('KeepsPromises', 'logged')
 PROMISES = [
     ('Promises on mail that is taken in, fields of `KeepsToClients`', 'KeepsToClients', SHOWN + [TAKE], ['stored_stands']),
-    ('Promises on mail that is read, fields of `KeepsToClients`', 'KeepsToClients', SHOWN + [READ], ['deleted_by_quit', 'shown_as_filed', 'shown_once', 'one_content']),
+    ('Promises on mail that is read, fields of `KeepsToClients`', 'KeepsToClients', SHOWN + [READ], ['deleted_by_quit', 'shown_as_filed', 'shown_once', 'shown_are_own', 'one_content']),
     ('Promises on the book, fields of `KeepsPromises`', 'KeepsPromises', SHOWN + [TAKE, READ, LOGGED],
      ['acknowledged_as_told', 'acknowledged_stand', 'struck_as_marked', 'dropped_are_gone']),
 ]

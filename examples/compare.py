@@ -1,15 +1,16 @@
 #!/usr/bin/env python3
 """Compares the examples with the tables that the tests run.
 
-crates/server_trials/src/tests/examples.rt has each tape and its transcript as one table. The gate runs the tables; this
-script says whether they are still the files of this folder: `examples/compare.py` writes nothing and ends with 0 where they are.
+crates/server_trials/src/tests/examples.rt and cluster_examples.rt have each tape and its transcript as one table. The gate runs the
+tables; this script says whether they are still the files of this folder: `examples/compare.py` writes nothing and ends with 0 where they are.
 """
 import pathlib
 import re
 import sys
 
 HERE = pathlib.Path(__file__).resolve().parent
-TABLES = HERE.parent / "crates/server_trials/src/tests/examples.rt"
+TESTS = HERE.parent / "crates/server_trials/src/tests"
+TABLES = [TESTS / "examples.rt", TESTS / "cluster_examples.rt"]
 
 
 def octets(literal):
@@ -20,7 +21,7 @@ def octets(literal):
 
 def main():
     differ = False
-    tables = re.findall(r'const ([A-Z_]+): &\[u8\] = b"(.*?)";', TABLES.read_text(), re.S)
+    tables = re.findall(r'const ([A-Z_]+): &\[u8\] = b"(.*?)";', "".join(it.read_text() for it in TABLES), re.S)
     for tape in sorted(HERE.glob("*.tape")):
         if tape.stem not in [name.lower() for name, _ in tables]:
             print(f"{tape.name} is in no table")

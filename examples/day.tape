@@ -45,10 +45,10 @@ say 3 STAT
 open pop 1
 say 4 USER alice
 say 4 PASS tanstaaf
-say 4 UIDL
 say 3 QUIT
-say 4 RETR 1
-say 4 RETR 3
+say 4 USER alice
+say 4 PASS tanstaaf
+say 4 RETR 2
 say 4 QUIT
 open pop 1
 say 5 USER alice

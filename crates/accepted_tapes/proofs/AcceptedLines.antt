@@ -10,12 +10,14 @@ use Rattle.session_model.specs.Acts.{Act}
 use Rattle.session_model.specs.Lives.{failed_by, failed_in}
 use Rattle.session_model.specs.Run.{IsHandled, AreHandled}
 use Rattle.cluster_model.specs.Room.{Flight}
-use Rattle.cluster_model.specs.World.{World}
-use Rattle.cluster_model.specs.WorldLaws.{opening_world}
+use Rattle.cluster_model.specs.Starts.{first_membership}
+use Rattle.maps_model.specs.Words.{ManagersAreMembers}
+use Rattle.joint_world.specs.World.{World}
+use Rattle.joint_world.specs.First.{first_world}
 use Rattle.accepted_tapes.specs.Follows.{Standing, FollowsAll}
 use Rattle.accepted_tapes.specs.Accepted.{IsAccepted}
 use Rattle.accepted_tapes.proofs.OneSession.{Idles}
-use Rattle.accepted_tapes.proofs.Flown.{Holds}
+use Rattle.accepted_tapes.proofs.Flown.{Keeps}
 
 -- What is known before a line: nothing was done, and there is no session; there is just this one, and no call has begun; there is one that idles, and these letters are in flight
 -- with some octets of a message, the last of this number; there is one that idles; or nothing.
@@ -26,11 +28,15 @@ pub data Stage : Type 0 where
   On : Stage
   Unknown : Stage
 
+-- the cluster has just opened, and members alone manage users
+abbrev pub HasOpened : Plan → World → Type 0
+HasOpened plan w = (map : List MapRow) × ManagersAreMembers (first_membership plan.nodes map) × (w ≡ first_world plan.nodes map)
+
 abbrev pub Meets : Plan → Stage → List Act → List Session → List Standing → World → Type 0
-Meets plan Fresh been sessions calls w = (been ≡ []) × (sessions ≡ []) × (calls ≡ []) × ((map : List MapRow) × (w ≡ opening_world plan.nodes map))
-Meets plan (One session) been sessions calls w = (sessions ≡ session ∷ []) × (calls ≡ []) × ((map : List MapRow) × (w ≡ opening_world plan.nodes map))
+Meets plan Fresh been sessions calls w = (been ≡ []) × (sessions ≡ []) × (calls ≡ []) × HasOpened plan w
+Meets plan (One session) been sessions calls w = (sessions ≡ session ∷ []) × (calls ≡ []) × HasOpened plan w
 Meets plan (Flown flying sent) been sessions calls w = (session : Session) × (sessions ≡ session ∷ []) × Idles session
-    × ((octets : List ℕ) × (length octets ≤ 4096) × Holds plan.nodes (flying octets) sent w)
+    × ((octets : List ℕ) × (length octets ≤ 4096) × Keeps plan (flying octets) sent w)
 Meets plan On been sessions calls w = (session : Session) × (sessions ≡ session ∷ []) × Idles session
 Meets plan Unknown been sessions calls w = ⊤
 

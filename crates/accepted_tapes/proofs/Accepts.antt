@@ -1,5 +1,5 @@
 -- The run lines of the tape of three nodes, one after another.
-use Rattle.std.proofs.Common.{◌≡◌, ⊎_elim, ◌≤◌, ℕ, Bool, true, false, List, [], ◌∷◌, ◌++◌, length, Option, Some, None, refl, sym, ap, ◌∙◌, subst, arith, codes}
+use Rattle.std.proofs.Common.{◌≡◌, ◌⊎◌, ⊎_elim, ◌≤◌, ℕ, Bool, true, false, List, [], ◌∷◌, ◌++◌, length, Option, Some, None, refl, sym, ap, ◌∙◌, subst, arith, codes}
 use Rattle.mail_model.specs.Tape.{Protocol}
 use Rattle.mail_model.specs.Tape.Order.{Say}
 use Rattle.mail_model.specs.Tape.ClusterOrder.{Post, Again}
@@ -12,12 +12,21 @@ use Rattle.session_model.specs.Acts.Deed.{IsAnswered}
 use Rattle.session_model.specs.Run.{IsHandled}
 use Rattle.session_model.specs.Lives.{failed_in}
 use Rattle.cluster_model.specs.Room.{Flight}
-use Rattle.cluster_model.specs.World.{World}
+use Rattle.cluster_model.specs.World as mail
 use Rattle.cluster_model.specs.WorldLaws.{opening_world}
+use Rattle.cluster_model.specs.Starts.{first_membership}
+use Rattle.cluster_model.specs.Steps.{NodeCall}
 use Rattle.cluster_model.specs.Steps.Step.{Begin}
 use Rattle.cluster_model.specs.Steps.Said.{Begun, Faulted}
-use Rattle.cluster_model.specs.Steps.StepOutcome.{Says}
-use Rattle.cluster_model.specs.Makes.{MakesStep, BeginsCall}
+use Rattle.cluster_model.specs.Makes.{BeginsCall, BeginsRead}
+use Rattle.maps_model.specs.Words.{ManagersAreMembers}
+use Rattle.whole_world.specs.Steps.Step.{OfMessages}
+use Rattle.whole_world.specs.Steps.Said.{Told}
+use Rattle.whole_world.specs.Steps.StepOutcome.{Says}
+use Rattle.joint_world.specs.World.{World, mail_world_of}
+use Rattle.joint_world.specs.First.{first_world}
+use Rattle.joint_world.specs.Makes.{MakesStep}
+use Rattle.cluster_owes.proofs.Chain.{Standing as AllStands, stands_on, step_of_mail, opens_standing, opens_for_mail}
 use Rattle.object_model.specs.Letters.{Number, MapRow}
 use Rattle.cluster_model.specs.Plain.{kept}
 use Rattle.worked_sessions.specs.OneMessage.{greeted, texting, small_mail, waiting, at_hello}
@@ -28,7 +37,7 @@ use Rattle.accepted_tapes.specs.Accepted.{AreAccepted}
 use Rattle.accepted_tapes.proofs.AcceptedLines.{Leads, Chained, chain_accepts}
 use Rattle.accepted_tapes.proofs.AcceptedLines.Stage.{Fresh, One, Flown}
 use Rattle.accepted_tapes.proofs.OneSession.{OnlyAsks, HasTold, tells}
-use Rattle.accepted_tapes.proofs.Flown.{Holds, asks_keep}
+use Rattle.accepted_tapes.proofs.Flown.{Keeps, asks_keep}
 use Rattle.accepted_tapes.proofs.Posted.{file_posted, told_posted}
 use Rattle.accepted_tapes.proofs.Told.{told_chain, hears_order}
 use Rattle.accepted_tapes.proofs.Letters.{calm_post, calm_again, posts_line}
@@ -55,21 +64,32 @@ told acts outputs been new handled sound =
     tells three_nodes been at_hello (codes "say 1 .") (codes ".") acts outputs new (Mailing texting) (Mailing greeted) small_mail waiting refl refl
     (record { is_unit = text_lines; whole = refl; led = (refl, refl) }) refl refl refl idle_line handled sound
 
+-- what the beginning of a call may be to messages
+abbrev MayBegin : NodeCall → Number → mail.World → mail.World → ℕ → Type 0
+MayBegin call ticket new old own = BeginsCall three_nodes true old own call (Begun ticket) new ⊎ BeginsRead three_nodes old own call (Begun ticket) new
+
 -- it has begun, and its letters are in flight
-sent_off : (been : List Act) (acts : List Act) (new : List Session) (t : HasTold (codes ".") waiting acts new) (calls : List Standing) (w : World) (left : List Standing) (next : World) → calls ≡ [] → (managers : List MapRow) → w ≡ opening_world 3 managers
-    → FollowsAll three_nodes posted_lines acts calls w left next → (octets : List ℕ) × (length octets ≤ 4096) × Holds 3 (two_files octets) 2 next
-sent_off been acts new t calls w left next none managers opens follows =
+sent_off : (been : List Act) (acts : List Act) (new : List Session) (t : HasTold (codes ".") waiting acts new) (calls : List Standing) (w : World) (left : List Standing) (next : World) → calls ≡ [] → (managers : List MapRow) → ManagersAreMembers (first_membership 3 managers) → w ≡ first_world 3 managers
+    → FollowsAll three_nodes posted_lines acts calls w left next → (octets : List ℕ) × (length octets ≤ 4096) × Keeps three_nodes (two_files octets) 2 next
+sent_off been acts new t calls w left next none managers members opens follows =
     let (between, mid, one, (later, last, two, rest)) = subst (λ (a : List Act). FollowsAll three_nodes posted_lines a calls w left next) t.acts_are follows in
     let (node, call, at, made, either) = two in
     let is_one = the_node node at in
-    let fresh : mid ≡ opening_world 3 managers = one.1 ∙ opens in
+    let fresh : mid ≡ first_world 3 managers = one.1 ∙ opens in
+    let stands : AllStands three_nodes true mid = subst (AllStands three_nodes true) (sym fresh) (opens_standing three_nodes true managers (omega arith) (omega arith) members) in
+    let seen_fresh : mail_world_of mid ≡ opening_world 3 managers = ap mail_world_of fresh ∙ sym (opens_for_mail three_nodes true managers (omega arith) (omega arith) members) in
     ⊎_elim
-    (λ (began : (ticket : Number) × MakesStep three_nodes true mid (Begin node call) (Says (Begun ticket)) last × (later ≡ between ++ record { session = 1; ticket = ticket } ∷ [])).
-    let begins : BeginsCall three_nodes true (opening_world 3 managers) 1 call (Begun began.0) last =
-    subst (λ (v : World). BeginsCall three_nodes true v 1 call (Begun began.0) last) fresh (subst (λ (n : ℕ). BeginsCall three_nodes true mid n call (Begun began.0) last) is_one began.1.1) in
-    let sent = delivered managers call began.0 last made begins in
-    (sent.0, sent.1, asks_keep three_nodes posted_lines 3 (two_files sent.0) 2 t.more t.asked.asks later last left next sent.2 rest))
-    (λ (fell : MakesStep three_nodes true mid (Begin node call) (Says (Faulted node)) last × (later ≡ between)).
+    (λ (began : (ticket : Number) × MakesStep three_nodes true mid (OfMessages (Begin node call)) (Says (Told (Begun ticket))) last × (later ≡ between ++ record { session = 1; ticket = ticket } ∷ [])).
+    let seen = step_of_mail three_nodes true mid last (OfMessages (Begin node call)) (Says (Told (Begun began.0))) began.1 stands in
+    let begins : MayBegin call began.0 (mail_world_of last) (opening_world 3 managers) 1 =
+    subst (λ (v : mail.World). MayBegin call began.0 (mail_world_of last) v 1) seen_fresh (subst (λ (n : ℕ). MayBegin call began.0 (mail_world_of last) (mail_world_of mid) n) is_one seen.1) in
+    let sent = delivered managers call began.0 (mail_world_of last) made begins in (
+      sent.0,
+      sent.1,
+      asks_keep three_nodes posted_lines (two_files sent.0) 2 t.more t.asked.asks later last left next
+          (record { stands = stands_on three_nodes true mid last (OfMessages (Begin node call)) (Says (Told (Begun began.0))) began.1 stands; holds = sent.2 }) rest,
+    ))
+    (λ (fell : MakesStep three_nodes true mid (OfMessages (Begin node call)) (Says (Told (Faulted node))) last × (later ≡ between)).
     absurd (never_asked t.more t.asked.asks t.some last left next
     (subst (λ (c : List Standing). FollowsAll three_nodes posted_lines t.more c last left next) (fell.1 ∙ one.0 ∙ none) rest)))
     either
@@ -79,7 +99,7 @@ period = record {
   accepts = λ been sessions calls w meets. (Say 1 (codes "."), refl, hears_order 3 refl posted_lines at_hello (codes ".") been sessions meets.0 refl, λ denied. tt);
   moves = λ been sessions calls w acts outputs new left next meets handled follows sound.
       let t = told acts outputs been new (subst (λ (ss : List Session). IsHandled three_nodes been ss (codes "say 1 .") acts outputs new) meets.0 handled) sound in
-      (t.asked.session, t.asked.is, t.asked.idles, sent_off been acts new t calls w left next meets.1 meets.2.0 meets.2.1 follows);
+      (t.asked.session, t.asked.is, t.asked.idles, sent_off been acts new t calls w left next meets.1 meets.2.0 meets.2.1 meets.2.2 follows);
 }
 
 -- Which letters are in flight before each line that posts one: the two that carry the message, and those that answer them.
@@ -146,5 +166,5 @@ chained = told_chain 3 refl posted_lines (codes "say 1 ." ∷ codes "again 1" �
 )
 
 pub letters_accepted : AreAccepted three_nodes posted_lines
-letters_accepted map front line rest acts outputs sessions calls w split runs follows sound alone =
-    chain_accepts three_nodes posted_lines posted_lines Fresh chained [] [] [] (opening_world 3 map) (refl, refl, refl, (map, refl)) front line rest acts outputs sessions calls w split runs follows sound
+letters_accepted map front line rest acts outputs sessions calls w members split runs follows sound alone =
+    chain_accepts three_nodes posted_lines posted_lines Fresh chained [] [] [] (first_world 3 map) (refl, refl, refl, (map, members, refl)) front line rest acts outputs sessions calls w split runs follows sound

@@ -1,5 +1,5 @@
 -- What a delivery at the first of three nodes puts in flight.
-use Rattle.std.proofs.Common.{◌≡◌, ◌+◌, ◌≤◌, ℕ, zero, suc, Bool, true, false, nat_le, List, [], ◌∷◌, ◌++◌, length, take, map, Option, Some, None, refl, sym, ap, ◌∙◌, subst, arith, codes, length-append, if◌then◌else◌}
+use Rattle.std.proofs.Common.{◌≡◌, ◌⊎◌, inl, inr, ◌+◌, ◌≤◌, ℕ, zero, suc, Bool, true, false, nat_le, List, [], ◌∷◌, ◌++◌, length, take, map, Option, Some, None, refl, sym, ap, ◌∙◌, subst, arith, codes, length-append, if◌then◌else◌}
 use Rattle.std.proofs.lemmas.Option.{none-some, same_Some}
 use Rattle.std.proofs.lemmas.List.{length-take}
 use Rattle.std.proofs.lemmas.Bool.Decides.{nat_tests}
@@ -25,8 +25,9 @@ use Rattle.cluster_model.specs.WorldLaws.{opening_world}
 use Rattle.cluster_model.specs.Steps.{NodeCall, fails_at_once}
 use Rattle.cluster_model.specs.Steps.NodeCall.{Deliver, Login, Fetch, Strike, Leave}
 use Rattle.cluster_model.specs.Steps.Said.{Begun, Noted, Faulted}
-use Rattle.cluster_model.specs.Makes.{IsUp, BeginsCall, IsFiled, after, with_struck, begun_by}
-use Rattle.cluster_model.specs.Makes.BeginsCall.{FailsAtOnce, Goes, FailsInIt, Reads, FailsReading, Leaves}
+use Rattle.cluster_model.specs.Makes.{IsUp, BeginsCall, BeginsRead, DrawsTicket, IsFiled, after, with_struck, begun_by}
+use Rattle.cluster_model.specs.Makes.BeginsCall.{FailsAtOnce, Goes, FailsInIt}
+use Rattle.cluster_model.specs.Makes.BeginsRead.{HasNoManager, Draws, FailsReading, Leaves}
 use Rattle.cluster_owes.specs.Seen.{call_made, is_whole}
 use Rattle.worked_sessions.specs.OneMessage.{small_mail}
 use Rattle.worked_sessions.specs.ThreeNodes.{three_nodes}
@@ -58,13 +59,13 @@ is_fresh managers node disk up = ap (λ (slot : Slot). node_in managers slot.lif
 same_mail : (call : NodeCall) → call_made call ≡ Some (DeliverCall small_mail) → call ≡ Deliver small_mail
 same_mail (Deliver mail) is = let e : DeliverCall mail ≡ DeliverCall small_mail = same_Some (DeliverCall mail) (DeliverCall small_mail) is in let m : mail ≡ small_mail = cc in ap Deliver m
 same_mail (Login user proof) is = let e : Call.Login user (given_of proof) ≡ DeliverCall small_mail = same_Some (Call.Login user (given_of proof)) (DeliverCall small_mail) is in absurd (cc e)
-same_mail (Fetch user id from most) is = by (is_whole from most) is
+same_mail (Fetch user id from most holders) is = by (is_whole from most) is
   where
-    by : (b : Bool) → (if b then Some (Call.Fetch user id) else None) ≡ Some (DeliverCall small_mail) → Fetch user id from most ≡ Deliver small_mail
+    by : (b : Bool) → (if b then Some (Call.Fetch user id) else None) ≡ Some (DeliverCall small_mail) → Fetch user id from most holders ≡ Deliver small_mail
     by true e = let clash : Call.Fetch user id ≡ DeliverCall small_mail = same_Some (Call.Fetch user id) (DeliverCall small_mail) e in absurd (cc clash)
     by false e = absurd (none-some (DeliverCall small_mail) e)
 same_mail (Strike user items) is = let e : Call.Strike user (map (λ item. item.id) items) ≡ DeliverCall small_mail = same_Some (Call.Strike user (map (λ item. item.id) items)) (DeliverCall small_mail) is in absurd (cc e)
-same_mail (Leave user) is = absurd (none-some (DeliverCall small_mail) is)
+same_mail (Leave user login manager) is = absurd (none-some (DeliverCall small_mail) is)
 
 -- the octets of the message are few
 abbrev pub first_id : Id
@@ -140,7 +141,7 @@ began managers octets short new is =
     }
 
 -- the message has begun to be delivered
-pub delivered : (managers : List MapRow) (call : NodeCall) (ticket : Number) (new : World) → call_made call ≡ Some (DeliverCall small_mail) → BeginsCall three_nodes true (opening_world 3 managers) 1 call (Begun ticket) new
+pub delivered : (managers : List MapRow) (call : NodeCall) (ticket : Number) (new : World) → call_made call ≡ Some (DeliverCall small_mail) → BeginsCall three_nodes true (opening_world 3 managers) 1 call (Begun ticket) new ⊎ BeginsRead three_nodes (opening_world 3 managers) 1 call (Begun ticket) new
     → (octets : List ℕ) × (length octets ≤ 4096) × Holds 3 (two_files octets) 2 new
 unfolding count_below
 delivered managers call ticket new made begins = by call begins (same_mail call made)
@@ -148,9 +149,9 @@ delivered managers call ticket new made begins = by call begins (same_mail call 
     fails_not : (node : Node) (disk : List Record) → IsUp (opening_world 3 managers) 1 node disk → fails_at_once three_nodes 0 node (Deliver small_mail) ≡ true → ⊥
     fails_not node disk up fails = let clash : false ≡ true = subst (λ (n : Node). fails_at_once three_nodes 0 n (Deliver small_mail) ≡ true) (is_fresh managers node disk up) fails in cc
 
-    by : (c : NodeCall) → BeginsCall three_nodes true (opening_world 3 managers) 1 c (Begun ticket) new → c ≡ Deliver small_mail → (octets : List ℕ) × (length octets ≤ 4096) × Holds 3 (two_files octets) 2 new
-    by c (FailsAtOnce node disk kind up kind_is fails said is) same = absurd (fails_not node disk up (subst (λ (x : NodeCall). fails_at_once three_nodes 0 node x ≡ true) same fails))
-    by c (Goes node disk octets up fine filed said is) same =
+    by : (c : NodeCall) → BeginsCall three_nodes true (opening_world 3 managers) 1 c (Begun ticket) new ⊎ BeginsRead three_nodes (opening_world 3 managers) 1 c (Begun ticket) new → c ≡ Deliver small_mail → (octets : List ℕ) × (length octets ≤ 4096) × Holds 3 (two_files octets) 2 new
+    by c (inl (FailsAtOnce node disk kind up kind_is fails said is)) same = absurd (fails_not node disk up (subst (λ (x : NodeCall). fails_at_once three_nodes 0 node x ≡ true) same fails))
+    by c (inl (Goes node disk octets up fine filed said is)) same =
         let here : IsFiled (opening_world 3 managers) 1 (fresh managers) (Deliver small_mail) octets = subst (λ (n : Node). IsFiled (opening_world 3 managers) 1 n (Deliver small_mail) octets) (is_fresh managers node disk up) (subst (λ (x : NodeCall). IsFiled (opening_world 3 managers) 1 node x octets) same filed) in
         let short = short_octets octets here.0 in
         let on : disk ≡ fresh_disk = ap (λ (slot : Slot). slot.disk) (same_Some (slot_up node disk) (slot_up (fresh managers) fresh_disk) (sym up)) in (
@@ -160,7 +161,8 @@ delivered managers call ticket new made begins = by call begins (same_mail call 
               (subst (λ (n : Node). new ≡ after (with_struck (opening_world 3 managers) (Deliver small_mail)) 1 (begun_by three_nodes (opening_world 3 managers) 1 n disk (Deliver small_mail) octets)) (is_fresh managers node disk up)
               (subst (λ (x : NodeCall). new ≡ after (with_struck (opening_world 3 managers) x) 1 (begun_by three_nodes (opening_world 3 managers) 1 node disk x octets)) same is))),
         )
-    by c (FailsInIt node disk octets up filed said goes_down) same = absurd (let clash : Begun ticket ≡ Faulted 1 = said in cc)
-    by c (Reads node disk kind found up alone goes kind_is found_is said is) same = absurd (let clash : 3 ≡ 1 = alone in omega (arith, clash))
-    by c (FailsReading node disk user id from most up alone goes is said new_is) same = absurd (let clash : Begun ticket ≡ Faulted 1 = said in cc)
-    by c (Leaves node disk user up alone is said new_is) same = absurd (let clash : Begun ticket ≡ Noted = said in cc)
+    by c (inl (FailsInIt node disk octets up filed said goes_down)) same = absurd (let clash : Begun ticket ≡ Faulted 1 = said in cc)
+    by c (inr (HasNoManager node disk user proof up logs_in goes said is)) same = absurd (let clash : Login user proof ≡ Deliver small_mail = sym logs_in ∙ same in cc)
+    by c (inr (Draws node disk up draws goes said on)) same = absurd (subst DrawsTicket same draws)
+    by c (inr (FailsReading node disk user id from most holders up fetches reads said is)) same = absurd (let clash : Begun ticket ≡ Faulted 1 = said in cc)
+    by c (inr (Leaves node disk user login manager up leaves said on)) same = absurd (let clash : Begun ticket ≡ Noted = said in cc)

@@ -1,5 +1,5 @@
 -- A world of nodes in the first epoch, with these letters in flight, and what a step makes of it.
-use Rattle.std.proofs.Common.{◌≡◌, ⊎_elim, ◌+◌, ◌≤◌, ◌&&◌, ℕ, Bool, true, false, nat_eq, eq-eqb, List, [], ◌∷◌, ◌++◌, Option, Some, None, refl, sym, ap, ◌∙◌, subst, if◌then◌else◌}
+use Rattle.std.proofs.Common.{◌≡◌, ◌⊎◌, inl, inr, ⊎_elim, ◌+◌, ◌≤◌, ◌&&◌, ℕ, Bool, true, false, nat_eq, eq-eqb, List, [], ◌∷◌, ◌++◌, Option, Some, None, refl, sym, ap, ◌∙◌, subst, if◌then◌else◌}
 use Rattle.std.proofs.lemmas.Bool.{and_parts, eqb-true}
 use Rattle.mail_model.specs.Identity.{Id, Stamp}
 use Rattle.mail_model.specs.Plan.{Plan}
@@ -17,12 +17,21 @@ use Rattle.cluster_model.specs.Rules.{Reaction, answer, end_ticket}
 use Rattle.cluster_model.specs.Room.{Flight, has_room}
 use Rattle.cluster_model.specs.World.{World, Flies, flies_on}
 use Rattle.cluster_model.specs.Steps.{Said, letter_at}
-use Rattle.cluster_model.specs.Makes.{AnswersAsk, after}
+use Rattle.cluster_model.specs.Makes.{AnswersAsk, AnswersRead, after}
 use Rattle.cluster_model.specs.Makes.AnswersAsk.{Waits, Ends}
 use Rattle.cluster_model.specs.Plain.{kept, without_letter}
 use Rattle.accepted_tapes.specs.Follows.{Standing, FollowsAll}
 use Rattle.accepted_tapes.proofs.OneSession.{OnlyAsks}
 use Rattle.cluster_model.proofs.Slots.{read_before}
+use Rattle.cluster_model.specs.Progress.{Ask}
+use Rattle.cluster_model.specs.Steps.Step.{AskFor}
+use Rattle.cluster_model.specs.Steps.Said.{Asked}
+use Rattle.whole_world.specs.Steps.Step.{OfMessages}
+use Rattle.whole_world.specs.Steps.Said.{Told}
+use Rattle.whole_world.specs.Steps.StepOutcome.{Says}
+use Rattle.joint_world.specs.World as joint
+use Rattle.joint_world.specs.Makes.{MakesStep}
+use Rattle.cluster_owes.proofs.Chain.{Standing as AllStands, stands_on, step_of_mail}
 
 -- the node is up in the first epoch
 pub record IsFirstUp (nodes : ℕ) (slots : List Slot) (n : ℕ) : Type 0 where
@@ -124,23 +133,36 @@ pub sends_one : (w : World) (own : ℕ) (did : Reaction) (letter : Letter) → d
 sends_one w own did letter one room = rw one (rw room refl)
 
 -- an ask leaves what flies
-pub asked_on : (plan : Plan) (nodes : ℕ) (flying : List Flight) (sent : ℕ) (old : World) (number : Number) (said : Said) (new : World) → Holds nodes flying sent old → AnswersAsk plan old number said new
-    → Holds nodes flying sent new
-asked_on plan nodes flying sent old number said new h (Waits node disk ticket up there got wanted is says new_is) = subst (Holds nodes flying sent) (sym new_is) h
-asked_on plan nodes flying sent old number said new h (Ends node disk ticket up there answer is says new_is) = subst (Holds nodes flying sent) (sym new_is) (record {
+pub asked_on : (plan : Plan) (nodes : ℕ) (flying : List Flight) (sent : ℕ) (old : World) (number : Number) (said : Said) (new : World) → Holds nodes flying sent old
+    → AnswersAsk plan old number said new ⊎ AnswersRead old number said new → Holds nodes flying sent new
+asked_on plan nodes flying sent old number said new h (inr read) = subst (Holds nodes flying sent) (sym read.new_world) h
+asked_on plan nodes flying sent old number said new h (inl (Waits node disk ticket up there got wanted is says new_is)) = subst (Holds nodes flying sent) (sym new_is) h
+asked_on plan nodes flying sent old number said new h (inl (Ends node disk ticket up there answer is says new_is)) = subst (Holds nodes flying sent) (sym new_is) (record {
   flying_is = h.flying_is;
   sent_is = h.sent_is;
   up = stay_up nodes old.slots number.node node (end_ticket number.seq node disk).node disk (end_ticket number.seq node disk).disk h.up up refl;
 })
 
-pub asks_keep : (plan : Plan) (all : List (List ℕ)) (nodes : ℕ) (flying : List Flight) (sent : ℕ) (acts : List Act) → OnlyAsks acts → (calls : List Standing) (w : World) (left : List Standing) (next : World)
-    → Holds nodes flying sent w → FollowsAll plan all acts calls w left next → Holds nodes flying sent next
-asks_keep plan all nodes flying sent [] only calls w left next h follows = subst (Holds nodes flying sent) (sym follows.1) h
-asks_keep plan all nodes flying sent (StillWaits k ∷ acts) only calls w left next h (between, mid, one, follows) =
-    asks_keep plan all nodes flying sent acts only between mid left next (asked_on plan nodes flying sent w one.0 _ mid h one.4.1) follows
-asks_keep plan all nodes flying sent (Does k (IsAnswered call answer reply) ∷ acts) only calls w left next h (between, mid, one, follows) =
-    asks_keep plan all nodes flying sent acts only between mid left next (asked_on plan nodes flying sent w one.0 _ mid h one.4.1) follows
-asks_keep plan all nodes flying sent (act ∷ acts) only calls w left next h follows = absurd only
+-- a world that stands, in which these letters are in flight
+pub record Keeps (plan : Plan) (flying : List Flight) (sent : ℕ) (w : joint.World) : Type 0 where
+  pub stands : AllStands plan true w
+  pub holds : Holds plan.nodes flying sent (joint.mail_world_of w)
+
+asked_keeps : (plan : Plan) (flying : List Flight) (sent : ℕ) (old : joint.World) (ticket : Number) (ask : Ask) (new : joint.World) → Keeps plan flying sent old
+    → MakesStep plan true old (OfMessages (AskFor ticket)) (Says (Told (Asked ask))) new → Keeps plan flying sent new
+asked_keeps plan flying sent old ticket ask new k made = record {
+  stands = stands_on plan true old new (OfMessages (AskFor ticket)) (Says (Told (Asked ask))) made k.stands;
+  holds = asked_on plan plan.nodes flying sent (joint.mail_world_of old) ticket (Asked ask) (joint.mail_world_of new) k.holds (step_of_mail plan true old new (OfMessages (AskFor ticket)) (Says (Told (Asked ask))) made k.stands).1;
+}
+
+pub asks_keep : (plan : Plan) (all : List (List ℕ)) (flying : List Flight) (sent : ℕ) (acts : List Act) → OnlyAsks acts → (calls : List Standing) (w : joint.World) (left : List Standing) (next : joint.World)
+    → Keeps plan flying sent w → FollowsAll plan all acts calls w left next → Keeps plan flying sent next
+asks_keep plan all flying sent [] only calls w left next k follows = subst (Keeps plan flying sent) (sym follows.1) k
+asks_keep plan all flying sent (StillWaits n ∷ acts) only calls w left next k (between, mid, one, follows) =
+    asks_keep plan all flying sent acts only between mid left next (asked_keeps plan flying sent w one.0 _ mid k one.4) follows
+asks_keep plan all flying sent (Does n (IsAnswered call answer reply) ∷ acts) only calls w left next k (between, mid, one, follows) =
+    asks_keep plan all flying sent acts only between mid left next (asked_keeps plan flying sent w one.0 _ mid k one.4) follows
+asks_keep plan all flying sent (act ∷ acts) only calls w left next k follows = absurd only
 
 -- a letter that carries a message, in the first epoch, and one that says it is filed
 abbrev pub file_of : ℕ → ℕ → Option Number → Id → Stamp → ℕ → List (List ℕ) → List ℕ → Letter

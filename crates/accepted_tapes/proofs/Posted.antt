@@ -1,11 +1,11 @@
 -- What comes of a letter that is posted to a node that is up in the first epoch.
-use Rattle.std.proofs.Common.{◌≡◌, ⊎_elim, ◌+◌, ◌≤◌, ◌&&◌, inl, inr, ℕ, Bool, true, false, nat_le, List, [], ◌∷◌, ◌++◌, Option, Some, None, refl, sym, ap, ◌∙◌, subst, if◌then◌else◌}
+use Rattle.std.proofs.Common.{◌≡◌, ⊎_elim, ◌+◌, ◌≤◌, ◌&&◌, inl, inr, ℕ, Bool, true, false, nat_le, List, [], ◌∷◌, ◌++◌, Option, Some, None, refl, sym, ap, ◌∙◌, subst, true≢false, if◌then◌else◌}
 use Rattle.std.specs.Prelude.{◌⊎◌}
 use Rattle.std.proofs.lemmas.Option.{none-some, same_Some}
 use Rattle.mail_model.specs.Identity.{Id, Stamp}
 use Rattle.mail_model.specs.Plan.{Plan}
 use Rattle.mail_model.specs.Record.{Record}
-use Rattle.object_model.specs.Letters.{Number, MapRow, Letter}
+use Rattle.object_model.specs.Letters.{Number, MapRow, Body, Letter, is_read_body}
 use Rattle.cluster_model.specs.Cluster.{Node, Slot, Ticket, with_slot}
 use Rattle.cluster_model.specs.Starts.{first_membership}
 use Rattle.cluster_model.specs.Forms.{IsMapsBody}
@@ -13,13 +13,13 @@ use Rattle.cluster_model.specs.Thrown.{is_stale, is_late, answers_ticket, thrown
 use Rattle.cluster_model.specs.Thrown.Why.{Stale, Late}
 use Rattle.cluster_model.specs.Deeds.{slot_up, hear}
 use Rattle.cluster_model.specs.Rules.{Reaction, ticket_at, told_at}
-use Rattle.object_model.specs.Letters.Body.{Filed}
+use Rattle.object_model.specs.Letters.Body.{Filed, FetchAsk}
 use Rattle.cluster_model.specs.Room.{Flight, has_room}
 use Rattle.cluster_model.specs.World.{World, Flies, flies_on}
 use Rattle.cluster_model.specs.Steps.{Said, letter_at, letters_end, step_fault}
 use Rattle.cluster_model.specs.Steps.Step.{Post}
 use Rattle.cluster_model.specs.Steps.Said.{Faulted}
-use Rattle.cluster_model.specs.Makes.{IsUp, Posts, after}
+use Rattle.cluster_model.specs.Makes.{IsUp, Posts, PostsRead, IsFetchAsk, posted_letter, after}
 use Rattle.cluster_model.specs.Makes.Posts.{NobodyUp, OfOtherEpoch, TooLate, IsHeard, FailsHearing, IsForMaps, FailsForMaps}
 use Rattle.cluster_model.specs.Plain.{kept}
 use Rattle.accepted_tapes.proofs.Flown.{IsFirstUp, Holds, are_distinct, flies_so, stay_up, sends_none, sends_one, installed_in, file_of, filed_of}
@@ -43,12 +43,33 @@ not_stale : (late : Bool) → (if late then Some Late else None) ≡ Some Stale 
 not_stale true is = let clash : Late ≡ Stale = same_Some Late Stale is in cc
 not_stale false is = none-some Stale is
 
+-- what a Post does to messages
+abbrev pub PostsStep : Plan → World → ℕ → Bool → Said → World → Type 0
+PostsStep plan old number keep said new =
+    ((posts : Posts plan old number keep said new) × (is_read_body (posted_letter posts).body ≡ false)) ⊎ PostsRead old number keep said new
+
+asks_reads : (body : Body) → IsFetchAsk body → is_read_body body ≡ true
+asks_reads (FetchAsk user id from most) asks = refl
+asks_reads body asks = absurd asks
+
 module _ (plan : Plan) (flying : List Flight) (sent : ℕ) (old : World) (h : Holds plan.nodes flying sent old) (distinct : are_distinct flying ≡ true)
     (number : ℕ) (keep : Bool) (letter : Letter) (here : letter_at number flying ≡ Some letter) (above : 1 ≤ letter.to) (within : letter.to ≤ plan.nodes)
     (fresh : (managers : List MapRow) → is_stale letter (Some (first_membership plan.nodes managers)) ≡ false) (of_mail : IsMapsBody letter.body → ⊥) where
   so : (f : Flies old number) → (f.letter ≡ letter) × (flies_on old number f keep ≡ kept number keep old.flying)
   so f = let is = flies_so old number f keep (subst (λ (l : List Flight). are_distinct l ≡ true) (sym h.flying_is) distinct) in
       (same_Some f.letter letter (sym is.0 ∙ ap (letter_at number) h.flying_is ∙ here), is.1)
+
+  of_reads : (f : Flies old number) → is_read_body f.letter.body ≡ true → is_read_body letter.body ≡ false → ⊥
+  of_reads f read unread = true≢false (sym (subst (λ (l : Letter). is_read_body l.body ≡ true) (so f).0 read) ∙ unread)
+
+  -- a letter of messages is none of calls that read
+  posts_of : (said : Said) (new : World) → is_read_body letter.body ≡ false → PostsStep plan old number keep said new → Posts plan old number keep said new
+  posts_of said new unread (inl posts) = posts.0
+  posts_of said new unread (inr (PostsRead.NobodyUp f read never says goes)) = absurd (of_reads f read unread)
+  posts_of said new unread (inr (PostsRead.OfOtherEpoch f node disk read up stale says goes)) = absurd (of_reads f read unread)
+  posts_of said new unread (inr (PostsRead.TooLate f node disk read up fits answers says is)) = absurd (of_reads f read unread)
+  posts_of said new unread (inr (PostsRead.IsHeard f node disk read up fits says goes)) = absurd (of_reads f read unread)
+  posts_of said new unread (inr (PostsRead.FailsForReads f node disk asks up fits says goes)) = absurd (of_reads f (asks_reads f.letter.body asks) unread)
 
   there : IsFirstUp plan.nodes old.slots letter.to
   there = h.up letter.to above within
@@ -84,12 +105,13 @@ module _ (plan : Plan) (flying : List Flight) (sent : ℕ) (old : World) (h : Ho
 pub file_posted : (plan : Plan) (flying : List Flight) (sent : ℕ) (old : World) → Holds plan.nodes flying sent old → are_distinct flying ≡ true → (number : ℕ) (keep : Bool)
     → (from to : ℕ) (ticket : Option Number) (id : Id) (stamp : Stamp) (targets : ℕ) (users : List (List ℕ)) (octets : List ℕ) → letter_at number flying ≡ Some (file_of from to ticket id stamp targets users octets)
     → 1 ≤ to → to ≤ plan.nodes → has_room (kept number keep flying) (filed_of to from ticket id) ≡ true
-    → (said : Said) (new : World) → Posts plan old number keep said new → ((n : ℕ) → said ≡ Faulted n → ⊥)
+    → (said : Said) (new : World) → PostsStep plan old number keep said new → ((n : ℕ) → said ≡ Faulted n → ⊥)
     → Holds plan.nodes (kept number keep flying ++ record { number = sent + 1; letter = filed_of to from ticket id } ∷ []) (sent + 1) new
 file_posted plan flying sent old h distinct number keep from to ticket id stamp targets users octets here above within room said new posts well = ⊎_elim
     (λ (late : IsLate number keep (file_of from to ticket id stamp targets users octets) old new). absurd (let clash : false ≡ true = late.0 in cc))
     (λ (heard : WasHeard plan number keep (file_of from to ticket id stamp targets users octets) old new). was heard)
-    (post_comes plan flying sent old h distinct number keep (file_of from to ticket id stamp targets users octets) here above within (λ managers. refl) (λ of. of) said new posts well)
+    (post_comes plan flying sent old h distinct number keep (file_of from to ticket id stamp targets users octets) here above within (λ managers. refl) (λ of. of) said new
+    (posts_of plan flying sent old h distinct number keep (file_of from to ticket id stamp targets users octets) here above within (λ managers. refl) (λ of. of) said new refl posts) well)
   where
     was : WasHeard plan number keep (file_of from to ticket id stamp targets users octets) old new
         → Holds plan.nodes (kept number keep flying ++ record { number = sent + 1; letter = filed_of to from ticket id } ∷ []) (sent + 1) new
@@ -110,12 +132,13 @@ file_posted plan flying sent old h distinct number keep from to ticket id stamp 
 -- one that says that it is filed is not
 pub told_posted : (plan : Plan) (flying : List Flight) (sent : ℕ) (old : World) → Holds plan.nodes flying sent old → are_distinct flying ≡ true → (number : ℕ) (keep : Bool)
     → (from to : ℕ) (ticket : Option Number) (id : Id) → letter_at number flying ≡ Some (filed_of from to ticket id) → 1 ≤ to → to ≤ plan.nodes
-    → (said : Said) (new : World) → Posts plan old number keep said new → ((n : ℕ) → said ≡ Faulted n → ⊥) → Holds plan.nodes (kept number keep flying) sent new
+    → (said : Said) (new : World) → PostsStep plan old number keep said new → ((n : ℕ) → said ≡ Faulted n → ⊥) → Holds plan.nodes (kept number keep flying) sent new
 told_posted plan flying sent old h distinct number keep from to ticket id here above within said new posts well = ⊎_elim
     (λ (late : IsLate number keep (filed_of from to ticket id) old new). subst (Holds plan.nodes (kept number keep flying) sent) (sym late.1)
     (record { flying_is = ap (kept number keep) h.flying_is; sent_is = h.sent_is; up = h.up }))
     (λ (heard : WasHeard plan number keep (filed_of from to ticket id) old new). was heard (ticket_at to (with_stamps (Filed id) heard.node) ticket) refl)
-    (post_comes plan flying sent old h distinct number keep (filed_of from to ticket id) here above within (λ managers. refl) (λ of. of) said new posts well)
+    (post_comes plan flying sent old h distinct number keep (filed_of from to ticket id) here above within (λ managers. refl) (λ of. of) said new
+    (posts_of plan flying sent old h distinct number keep (filed_of from to ticket id) here above within (λ managers. refl) (λ of. of) said new refl posts) well)
   where
     holds : (node : Node) (disk : List Record) (did : Reaction) → IsUp old to node disk → did.out ≡ [] → did.node.installed ≡ node.installed → new ≡ after (record old { flying = kept number keep old.flying }) to did
         → Holds plan.nodes (kept number keep flying) sent new

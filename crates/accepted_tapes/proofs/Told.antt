@@ -20,7 +20,7 @@ use Rattle.session_model.specs.Acts.Deed.{IsFed, Hears}
 use Rattle.session_model.specs.Turns.{Turn, ActsGo, Starts}
 use Rattle.session_model.specs.Turns.Turn.{Asking}
 use Rattle.session_model.specs.Run.{IsHandled, refusal, is_on, is_no_node}
-use Rattle.cluster_model.specs.World.{World}
+use Rattle.joint_world.specs.World.{World}
 use Rattle.worked_sessions.specs.OneMessage.{plan_of_nodes, greeted, sending, addressed, texting, small_text, at_once, fed_with, heard_with, at_open, at_helo, at_mail, at_rcpt, at_data, at_subject, at_gap, at_hello}
 use Rattle.worked_sessions.proofs.Lines.{whole_line, idle_line, idle_text, has_alice, reply_where, told_where, text_lines}
 use Rattle.accepted_tapes.specs.Follows.{Standing, FollowsAll}
@@ -54,7 +54,7 @@ module _ (n : ℕ) (some : is_no_node (plan_of_nodes n) 1 ≡ false) (all : List
         let said = says_once plan been s line text acts outputs new state (at_once text reply) spelled hears is_next refl refl (subst Rests is rests)
         (subst (λ (ss : List Session). IsHandled plan been ss line acts outputs new) meets.0 handled) in
         let quiet = said_quietly plan all (sent_line text) text reply calls left w next (subst (λ (a : List Act). FollowsAll plan all a calls w left next) said.0 follows) in
-        (said.1 ∙ ap (λ (b : Session). b ∷ []) (sym is), quiet.0 ∙ meets.1, (meets.2.0, quiet.1 ∙ meets.2.1));
+        (said.1 ∙ ap (λ (b : Session). b ∷ []) (sym is), quiet.0 ∙ meets.1, (meets.2.0, meets.2.1, quiet.1 ∙ meets.2.2));
   }
 
   -- one of a text
@@ -65,7 +65,7 @@ module _ (n : ℕ) (some : is_no_node (plan_of_nodes n) 1 ≡ false) (all : List
     moves = λ been sessions calls w acts outputs new left next meets handled follows sound.
         let said = only_fed plan been s line text acts outputs new spelled rests (subst (λ (ss : List Session). IsHandled plan been ss line acts outputs new) meets.0 handled) in
         let quiet = fed_quietly plan all (sent_line text) calls left w next (subst (λ (a : List Act). FollowsAll plan all a calls w left next) said.0 follows) in
-        (said.1, quiet.0 ∙ meets.1, (meets.2.0, quiet.1 ∙ meets.2.1));
+        (said.1, quiet.0 ∙ meets.1, (meets.2.0, meets.2.1, quiet.1 ∙ meets.2.2));
   }
 
   opened : (acts : List Act) (outputs : List (List Entry)) (new : List Session) → IsHandled plan [] [] (codes "open smtp 1") acts outputs new → (acts ≡ Opens Smtp 1 (greeting_text 1) ∷ []) × (new ≡ at_open ∷ [])
@@ -93,7 +93,7 @@ module _ (n : ℕ) (some : is_no_node (plan_of_nodes n) 1 ≡ false) (all : List
         (subst (λ (b : List Act). IsHandled plan b [] (codes "open smtp 1") acts outputs new) meets.0
         (subst (λ (ss : List Session). IsHandled plan been ss (codes "open smtp 1") acts outputs new) meets.1 handled)) in
         let (between, mid, one, rest) = subst (λ (a : List Act). FollowsAll plan all a calls w left next) said.0 follows in
-        (said.1, rest.0 ∙ one.0 ∙ meets.2, (meets.3.0, rest.1 ∙ one.1 ∙ meets.3.1));
+        (said.1, rest.0 ∙ one.0 ∙ meets.2, (meets.3.0, meets.3.1, rest.1 ∙ one.1 ∙ meets.3.2));
   }
 
   helo : Leads plan all (codes "say 1 HELO c.example") (One at_open) (One at_helo)

@@ -11,12 +11,16 @@ use Rattle.session_model.specs.Acts.{Act}
 use Rattle.session_model.specs.Acts.Act.{StillWaits}
 use Rattle.session_model.specs.Run.{Made, AreHandled, FirstStep, refusal}
 use Rattle.session_model.specs.Lives.{failed_in}
-use Rattle.cluster_model.specs.World.{World}
-use Rattle.cluster_model.specs.WorldLaws.{opening_world}
-use Rattle.cluster_model.specs.Steps.{StepFault}
+use Rattle.cluster_model.specs.Starts.{first_membership}
 use Rattle.cluster_model.specs.Steps.Step.{GiveUp as EndCall}
-use Rattle.cluster_model.specs.Steps.StepOutcome.{Refused}
-use Rattle.cluster_model.specs.Makes.{MadeStep, MakesStep}
+use Rattle.maps_model.specs.Words.{ManagersAreMembers}
+use Rattle.whole_world.specs.Steps.{StepFault}
+use Rattle.whole_world.specs.Steps.Step.{OfMessages}
+use Rattle.whole_world.specs.Steps.StepOutcome.{Refused}
+use Rattle.whole_world.specs.Makes.{MadeStep}
+use Rattle.joint_world.specs.World.{World}
+use Rattle.joint_world.specs.First.{first_world}
+use Rattle.joint_world.specs.Makes.{MakesStep}
 use Rattle.accepted_tapes.specs.Orders.{MakesOrder, AreDenied}
 use Rattle.accepted_tapes.specs.Follows.{Standing, FollowsAll}
 
@@ -30,7 +34,7 @@ MayBeDenied order sessions = (step : Made) × FirstStep order sessions step
 
 -- no ticket of session k is one that the machine refuses to give up
 abbrev pub GrantsEnd : Plan → ℕ → List Standing → World → Type 0
-GrantsEnd plan k calls w = (ticket : Number) (why : StepFault) (next : World) → Among (record { session = k; ticket = ticket }) calls → MakesStep plan true w (EndCall ticket) (Refused why) next → ⊥
+GrantsEnd plan k calls w = (ticket : Number) (why : StepFault) (next : World) → Among (record { session = k; ticket = ticket }) calls → MakesStep plan true w (OfMessages (EndCall ticket)) (Refused why) next → ⊥
 
 -- no step that the order asks for is one that the machine refuses
 abbrev pub Grants : Plan → Order → List Standing → World → Type 0
@@ -44,10 +48,10 @@ abbrev pub IsAccepted : Plan → List Act → List Session → List Standing →
 IsAccepted plan been sessions calls w line =
     (order : Order) × (tape_order line ≡ Some order) × (refusal plan been sessions order ≡ None) × (MayBeDenied order sessions → Grants plan order calls w)
 
--- Each of the run lines is accepted after those before it, whoever manages the users as the cluster opens and whatever the machine makes of these lines on disks that do not fail. In a
--- plan of one node nobody waits.
+-- Each of the run lines is accepted after those before it, whichever members manage the users as the cluster opens and whatever the machine makes of these lines on disks that do not
+-- fail. In a plan of one node nobody waits.
 abbrev pub AreAccepted : Plan → List (List ℕ) → Type 0
 AreAccepted plan lines = (map : List MapRow) (front : List (List ℕ)) (line : List ℕ) (rest : List (List ℕ)) (acts : List (List Act)) (outputs : List (List (List Entry))) (sessions : List Session)
-    → (calls : List Standing) (w : World) → lines ≡ front ++ line ∷ rest → AreHandled plan [] [] front acts outputs sessions
-    → FollowsAll plan lines (flat_map (λ a. a) acts) [] (opening_world plan.nodes map) calls w → failed_in (flat_map (λ a. a) acts) ≡ []
+    → (calls : List Standing) (w : World) → ManagersAreMembers (first_membership plan.nodes map) → lines ≡ front ++ line ∷ rest → AreHandled plan [] [] front acts outputs sessions
+    → FollowsAll plan lines (flat_map (λ a. a) acts) [] (first_world plan.nodes map) calls w → failed_in (flat_map (λ a. a) acts) ≡ []
     → (plan.nodes ≡ 1 → NobodyWaits (flat_map (λ a. a) acts)) → IsAccepted plan (flat_map (λ a. a) acts) sessions calls w line

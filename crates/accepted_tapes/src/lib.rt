@@ -1,4 +1,4 @@
-//! accepted_tapes: which tapes the machine of `cluster_model` accepts, line by line.
+//! accepted_tapes: which tapes the machine of `joint_world` accepts, line by line.
 //!
 //! SUMMARY
 //!
@@ -16,7 +16,7 @@
 //!
 //! STANDS ON
 //!
-//! `cluster_model` for the machine, `session_model` for the acts of a run, and `cluster_owes` for calls
+//! `joint_world` for the machine, `session_model` for the acts of a run, and `cluster_owes` for calls
 //! and answers as both name them; `worked_sessions` for the session of the worked tape.
 //!
 //! WHAT IT DOES NOT DO

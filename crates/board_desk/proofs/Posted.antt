@@ -12,12 +12,13 @@ use Rattle.cluster_owes.specs.Outcomes.{IsIdleStep}
 use Rattle.cluster_owes.proofs.Books.{acked_both, struck_both}
 use Rattle.call_tickets.specs.declared.desk.Posted.{Posted}
 use Rattle.call_tickets.specs.declared.desk.DeskFault.{DeskFault}
+use Rattle.joint_world.specs.World.{mail_world_of}
 use Rattle.node_store.specs.Disks.{View}
 use Rattle.cluster_world.specs.Ended.{IsEnded}
 use Rattle.cluster_world.specs.Flights.{first_number}
 use Rattle.cluster_world.specs.Seen.{step_seen, outcome_seen}
 use Rattle.cluster_world.specs.Steps.{StepIsKnown}
-use Rattle.cluster_world.specs.Worlds.{state_of, plan_of, book_of, tells_in}
+use Rattle.cluster_world.specs.Worlds.{state_of, plan_of, book_of, disks_tell}
 use Rattle.cluster_world.specs.declared.world.World.{World}
 use Rattle.cluster_world.specs.declared.step.Step.{Step}
 use Rattle.cluster_world.specs.declared.step.Step.TheVariants as step
@@ -51,8 +52,8 @@ module _ {D : Type 0} (on : View D) where
   ticks_add : (result : Result Said StepFault) (seconds : ℕ) (old new : World D) → CanServe on old → MakesOne on result (step.Tick seconds) old new → AddsTo AreQuiet old new
   ticks_add result seconds old new serves (inl is) =
       let l = led on result (step.Tick seconds) old new is (inr tt) tt serves in
-      booked on AreQuiet old new serves.w l.next serves.stands l.stands
-      (tick_is_quiet (plan_of old) (tells_in on.seen (state_of old)) serves.w l.next seconds (outcome_seen result) l.made serves.sound)
+      booked on AreQuiet old new serves.whole l.whole
+      (tick_is_quiet (plan_of old) (disks_tell on.seen old) (mail_world_of serves.whole.v) (mail_world_of l.whole.v) seconds (outcome_seen result) l.seen serves.whole.sound.whole.sound.mail)
   ticks_add result seconds old new serves (inr (short, same)) = same_world_adds old new same
 
   idle_one_adds : (result : Result Said StepFault) (one : Step) (old new : World D) → StepIsKnown on.seen (state_of old) one → IsEnded one → IsIdleStep (step_seen one) (outcome_seen result) → CanServe on old

@@ -10,10 +10,10 @@ use Rattle.solo_desk.proofs.Stepping.{same_adds}
 
 module _ {D : Type 0} (on : View D) (world : World D) where
   pub can_serve : IsSoundWorld on world → CanServe on world
-  can_serve s = record { ready = s.ready; w = s.plain; stands = s.stands; in_plan = s.in_plan; sound = s.sound; tickets = s.tickets }
+  can_serve s = record { ready = s.ready; whole = s.whole; tickets = s.tickets }
 
   pub is_sound : CanServe on world → IsSoundWorld on world
-  is_sound s = record { ready = s.ready; plain = s.w; stands = s.stands; in_plan = s.in_plan; sound = s.sound; tickets = s.tickets }
+  is_sound s = record { ready = s.ready; whole = s.whole; tickets = s.tickets }
 
 pub same_world_adds : {D : Type 0} (old new : World D) → new ≡ old → AddsTo AreQuiet old new
 same_world_adds old new same = same_adds old new (ap book_of same)

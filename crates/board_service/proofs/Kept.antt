@@ -155,14 +155,12 @@ module _ (plan : Plan) (node number : ℕ) (ended : Served) (left0 left1 held0 h
 -- a connection, and a list of them
 visit_grew : (plan : Plan) (visit : Visit) (told : List Acked) → option_map acked_in visit.told1 ≡ Some told → WasServed plan visit → GrewTo (option_map acked_in visit.told0) told
 visit_grew plan visit told is (inl passed) = record { before = told; was = ap (λ (o : Option (List BookEntry)). option_map acked_in o) (sym passed.told) ∙ is; within = λ copy a. a }
-visit_grew plan visit told is (inr (inl away)) = record { before = told; was = ap (λ (o : Option (List BookEntry)). option_map acked_in o) (sym away.told) ∙ is; within = λ copy a. a }
-visit_grew plan visit told is (inr (inr served)) =
+visit_grew plan visit told is (inr served) =
     by_grew plan visit.line.node visit.line.number visit.ended visit.left0 visit.left1 visit.held0 visit.held1 (known_to visit.told0 visit.counts0) (known_to visit.told1 visit.counts1) told is visit.line.protocol served
 
 visit_kept : (plan : Plan) (visit : Visit) (told : List Acked) → option_map acked_in visit.told1 ≡ Some told → (served : WasServed plan visit) → AreKept told (exchanges_in plan visit served)
 visit_kept plan visit told is (inl passed) = tt
-visit_kept plan visit told is (inr (inl away)) = tt
-visit_kept plan visit told is (inr (inr served)) =
+visit_kept plan visit told is (inr served) =
     by_kept plan visit.line.node visit.line.number visit.ended visit.left0 visit.left1 visit.held0 visit.held1 (known_to visit.told0 visit.counts0) (known_to visit.told1 visit.counts1) told is visit.line.protocol served
 
 list_kept : (plan : Plan) (visits : List Visit) (told : Option (List BookEntry)) (comes : ComesOf plan visits told) (acked : List Acked) → option_map acked_in told ≡ Some acked

@@ -42,8 +42,7 @@ exchanges_by Pop plan node number ended left0 left1 held0 held1 old new served =
 
 abbrev pub exchanges_in : (plan : Plan) (visit : Visit) → WasServed plan visit → List Exchange
 exchanges_in plan visit (inl passed) = []
-exchanges_in plan visit (inr (inl away)) = []
-exchanges_in plan visit (inr (inr served)) =
+exchanges_in plan visit (inr served) =
     exchanges_by visit.line.protocol plan visit.line.node visit.line.number visit.ended visit.left0 visit.left1 visit.held0 visit.held1 (known_to visit.told0 visit.counts0) (known_to visit.told1 visit.counts1) served
 
 -- those of all the connections that a list came of, and of all lists

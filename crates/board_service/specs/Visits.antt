@@ -1,7 +1,6 @@
 -- Connections that were served in the name of a pass, and what its entries of the book came of.
-use Rattle.std.specs.Prelude.{◌≡◌, ◌⊎◌, ◌&&◌, ℕ, ◌+◌, ⊤, List, [], ◌∷◌, ◌++◌, length, Bool, true, false, nat_le, nat_lt, codes, Option, Some}
+use Rattle.std.specs.Prelude.{◌≡◌, ◌⊎◌, ◌&&◌, ℕ, ◌+◌, ⊤, List, [], ◌∷◌, length, false, nat_le, Option, Some}
 use Rattle.std.specs.Option.{option_map}
-use Rattle.std.specs.Io.KnownBytes.{Appends}
 use Rattle.io_edge.specs.declared.yard.Protocol.{Protocol}
 use Rattle.io_edge.specs.declared.yard.Protocol.TheVariants.{Smtp, Pop}
 use Rattle.mail_model.specs.Book.{BookEntry, acked_in, struck_in}
@@ -26,24 +25,6 @@ pub record IsPassedOver (node : ℕ) (left0 left1 held0 held1 : Option (List ℕ
   pub held : held1 ≡ held0
   pub told : told1 ≡ told0
 
--- Mail is read in a cluster of one node alone: whether a client is told so at once, and what it is told
-abbrev pub turns_away : (nodes : ℕ) → Protocol → Bool
-turns_away nodes Smtp = false
-turns_away nodes Pop = nat_lt 1 nodes
-
-abbrev pub turned_away : List ℕ
-turned_away = codes "-ERR [SYS/PERM] no mail is read in a cluster of several nodes" ++ 13 ∷ 10 ∷ []
-
--- The client was told so, or as much of it as it took. Nothing was read, and nothing done.
-pub record IsTurnedAway (nodes : ℕ) (protocol : Protocol) (left0 left1 held0 held1 : Option (List ℕ)) (told0 told1 : Option (List BookEntry)) : Type 0 where
-  pub away : turns_away nodes protocol ≡ true
-  pub left : left1 ≡ left0
-  pub wrote : List ℕ
-  pub missing : List ℕ
-  pub whole : turned_away ≡ wrote ++ missing
-  pub held : Appends held0 held1 wrote
-  pub told : told1 ≡ told0
-
 -- A connection: which it is, and how it ended; what its source had left and its sink held, before and after; and the entries that the pass told as its own, where told, with its
 -- counts, before and after.
 pub record Visit : Type 0 where
@@ -58,11 +39,10 @@ pub record Visit : Type 0 where
   pub counts0 : Tally
   pub counts1 : Tally
 
--- it was served so, or its client was turned away, or it is at no node
+-- it was served so, or it is at no node
 abbrev pub WasServed : Plan → Visit → Type 0
 WasServed plan v =
     IsPassedOver v.line.node v.left0 v.left1 v.held0 v.held1 v.told0 v.told1
-    ⊎ IsTurnedAway plan.nodes v.line.protocol v.left0 v.left1 v.held0 v.held1 v.told0 v.told1
     ⊎ ServedBy v.line.protocol plan v.line.node v.line.number v.ended v.left0 v.left1 v.held0 v.held1 (known_to v.told0 v.counts0) (known_to v.told1 v.counts1)
 
 -- nothing was acknowledged and nothing struck, by what is told still

@@ -1,16 +1,15 @@
 //! A connection, at a board.
-ghost use Rattle.std.specs.Prelude.{◌≡◌, ◌&&◌, ◌++◌, ℕ, List, nat_le, false, IfSome, IfNone};
-ghost use Rattle.std.specs.Io.KnownBytes.{Appends};
+ghost use Rattle.std.specs.Prelude.{◌≡◌, ◌&&◌, nat_le, false, IfSome, IfNone};
 ghost use Rattle.node_store.specs.Disks.{view_of};
 ghost use Rattle.call_tickets.specs.Passes.{known_to};
 ghost use Rattle.shard_board.specs.Boards.{IsPassOf};
 ghost use Rattle.board_service.specs.Passes.{StaysPass};
-ghost use Rattle.board_service.specs.Visits.{ServedBy, turned_away, turns_away};
+ghost use Rattle.board_service.specs.Visits.{ServedBy};
 ghost use Rattle.board_service.specs.Serving.{Serves};
 
 use board_desk::BoardDesk;
 use call_tickets::Desk;
-use io_edge::{Clock, Disk, Fate, Gate, Protocol, Sink, Source, write_all};
+use io_edge::{Clock, Disk, Fate, Gate, Protocol, Sink, Source};
 use mail_base::{NodeNo, Plan};
 use mail_service::Line;
 use session_gate::{Served, serve_pop, serve_smtp};
@@ -55,28 +54,7 @@ fn node_of(number: u8) -> Option<NodeNo>
     NodeNo::new(number)
 }
 
-// Whether a client is told at once that nobody reads mail there: mail is read in a cluster of one node alone.
-fn turns_away(nodes: u8, protocol: Protocol) -> bool
-    ensures { result ≡ turns_away nodes protocol }
-{
-    match protocol {
-        Protocol::Smtp => false,
-        Protocol::Pop => nodes > 1,
-    }
-}
-
-// Tells it to the client, as far as it takes it.
-fn turn_away<K: Sink>(sink: &mut K)
-    ensures { (wrote : List ℕ) × (missing : List ℕ) × (turned_away ≡ wrote ++ missing) × Appends (K.contents sink.old) (K.contents sink.new) wrote }
-{
-    let _told = write_all(
-        sink,
-        b"-ERR [SYS/PERM] no mail is read in a cluster of several nodes\r\n",
-    );
-}
-
-/// Serves the connection to its end, at its node. Where no plan has the node, nothing is read or written. A client that wants to
-/// read mail in a cluster of several nodes is told that this can't be done, and nothing is read of what it says.
+/// Serves the connection to its end, at its node. Where no plan has the node, nothing is read or written.
 pub(crate) fn serve_client<R: Wait, D: Disk, F: Fate, C: Clock, G: Gate, S: Source, K: Sink>(
     rt: &R,
     alloc: Global,
@@ -95,10 +73,6 @@ pub(crate) fn serve_client<R: Wait, D: Disk, F: Fate, C: Clock, G: Gate, S: Sour
     let Some(node) = node_of(line.node) else {
         return;
     };
-    if turns_away(plan.nodes, line.protocol) {
-        turn_away(sink);
-        return;
-    }
     let desk = BoardDesk::new(rt, board, pass);
     let _served = speak(
         rt,

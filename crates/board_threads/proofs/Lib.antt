@@ -2,6 +2,7 @@ pub mod Tables
 pub mod Mail
 pub mod Stores
 pub mod Tickets
+pub mod Readings
 pub mod Maps
 pub mod Worlds
 pub mod Boards

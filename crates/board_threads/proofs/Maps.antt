@@ -1,8 +1,6 @@
 -- What a node has of members and of users, and a whole node, may cross threads.
-use denote.RattleType.{RattleType}
 use denote.Param.Send.{IsSend, sendable}
-use denote.Param.SendFields.{declared_send, variants_send, as_row_send}
-use denote.Struct.Field.{row_field}
+use denote.Param.SendFields.{declared_send}
 use Rattle.std.proofs.Crossing as lists
 use Rattle.std.proofs.MapsCrossing as maps
 use Rattle.membership.specs.contracts.opened.Joined as joined
@@ -21,6 +19,7 @@ use Rattle.whole_node.specs.contracts.node.WholeNode as whole
 use Rattle.mail_base.specs.contracts.member.Claim as claim
 use Rattle.board_threads.proofs.Mail.{name_send, node_no_send, msg_id_send, epoch_id_send, member_send, claim_send, row_send, sequence_send}
 use Rattle.board_threads.proofs.Tickets.{install_send, node_send}
+use Rattle.board_threads.proofs.Readings.{reads_send, locks_send}
 
 joined_inside_send : IsSend joined_inside.the_row
 joined_inside_send = declared_send joined_inside.the_type (member_send, (sequence_send claim.the_row claim_send, tt))
@@ -59,4 +58,4 @@ pub node_maps_send : IsSend node_maps.the_row
 node_maps_send = declared_send node_maps.the_type (group_send, (reports_send, (rows_send, (fragments_send, tt))))
 
 pub whole_send : IsSend whole.the_row
-whole_send = declared_send whole.the_type (node_send, (node_maps_send, tt))
+whole_send = declared_send whole.the_type (node_send, (node_maps_send, (reads_send, (locks_send, tt))))

@@ -1,8 +1,6 @@
 -- What a node keeps may cross threads: its journal, its messages, its objects and its update log.
-use denote.RattleType.{RattleType}
 use denote.Param.Send.{IsSend, sendable}
-use denote.Param.SendFields.{declared_send, variants_send, as_row_send}
-use denote.Struct.Field.{row_field}
+use denote.Param.SendFields.{declared_send}
 use Rattle.std.proofs.Crossing as lists
 use Rattle.std.proofs.MapsCrossing as maps
 use Rattle.disk_journal.specs.contracts.journal.Journal as journal

@@ -1,12 +1,9 @@
 -- The tickets of calls, and a node that has them, may cross threads.
-use denote.RattleType.{RattleType}
 use denote.Param.Send.{IsSend, sendable}
-use denote.Param.SendFields.{declared_send, variants_send, as_row_send}
-use denote.Struct.Field.{row_field}
+use denote.Param.SendFields.{declared_send, variants_send}
 use Rattle.std.proofs.Crossing as lists
 use Rattle.std.proofs.MapsCrossing as maps
 use Rattle.call_tickets.specs.contracts.answer.Mishaps as mishaps
-use Rattle.call_tickets.specs.contracts.answer.Answer as answer
 use Rattle.mail_base.specs.contracts.filing.CallKind as kind
 use Rattle.node_tickets.specs.contracts.want.Asked as asked
 use Rattle.node_tickets.specs.contracts.want.Want as want
@@ -20,7 +17,7 @@ use Rattle.mail_base.specs.contracts.member.Member as member
 use Rattle.node_core.specs.contracts.shape.Shape as shape
 use Rattle.node_core.specs.contracts.numbers.Numbers as numbers
 use Rattle.node_core.specs.contracts.node.Node as node
-use Rattle.board_threads.proofs.Mail.{name_send, node_no_send, node_set_send, msg_id_send, stamp_send, ticket_send, items_send, octets_send, filing_send, epoch_id_send, member_send, user_map_send, sequence_send}
+use Rattle.board_threads.proofs.Mail.{name_send, node_no_send, node_set_send, msg_id_send, filing_send, epoch_id_send, member_send, user_map_send, sequence_send}
 use Rattle.board_threads.proofs.Stores.{store_send}
 
 pub mishaps_send : IsSend mishaps.the_row
@@ -28,9 +25,6 @@ mishaps_send = search (sendable) depth 20
 
 pub kind_send : IsSend kind.the_row
 kind_send = search (sendable) depth 20
-
-pub answer_send : IsSend answer.the_row
-answer_send = variants_send answer.enum ((msg_id_send, (node_set_send, tt)), ((ticket_send, (node_no_send, (node_set_send, (items_send, tt)))), ((stamp_send, tt), ((ticket_send, tt), ((node_no_send, tt), ((octets_send, (search sendable depth 20, tt)), (tt, ((search (node_set_send, lists.crosses, sendable) depth 20, tt), ((mishaps_send, tt), tt)))))))))
 
 pub asked_send : IsSend asked.the_row
 asked_send = variants_send asked.enum ((filing_send, tt), ((name_send, (msg_id_send, tt)), tt))
@@ -42,7 +36,7 @@ pub want_send : IsSend want.the_row
 want_send = search (want_inside_send, sendable) depth 20
 
 progress_inside_send : IsSend progress_inside.the_row
-progress_inside_send = declared_send progress_inside.the_type (kind_send, (search (want_send, lists.crosses, sendable) depth 20, (mishaps_send, (search (answer_send, sendable) depth 20, (search (node_set_send, lists.crosses, sendable) depth 20, tt)))))
+progress_inside_send = declared_send progress_inside.the_type (kind_send, (search (want_send, lists.crosses, sendable) depth 20, (mishaps_send, (search (node_set_send, lists.crosses, sendable) depth 20, tt))))
 
 pub progress_send : IsSend progress.the_row
 progress_send = search (progress_inside_send, sendable) depth 20

@@ -17,6 +17,7 @@
 //! | `proofs/Mail.antt` | names, plans, messages, letters; a plan may also be shared |
 //! | `proofs/Stores.antt` | what a node keeps: its journal, its messages, its objects, its update log |
 //! | `proofs/Tickets.antt` | the tickets of calls, and a node |
+//! | `proofs/Readings.antt` | the tickets of calls that read, and the locks of maildrops |
 //! | `proofs/Maps.antt` | what a node has of members and users, and a whole node |
 //! | `proofs/Worlds.antt` | the book, letters in flight, and a world |
 //! | `proofs/Tables.antt` | the table of a lock, a turnstile and its passes, over any value |

@@ -13,13 +13,12 @@ use Rattle.object_model.specs.Lists.{Among}
 use Rattle.object_model.specs.Letters.{Number}
 use Rattle.object_model.specs.Sets.{count_in}
 use Rattle.object_model.specs.Mishaps.{Mishaps}
-use Rattle.cluster_model.specs.Reads.{Found}
 use Rattle.cluster_model.specs.Cluster.{NodeFiling, AskedOfNodes, Want, Ticket, Node, Slot, slot_at, with_slot}
 use Rattle.cluster_model.specs.Cluster.AskedOfNodes.{Copies, Deletion}
 use Rattle.cluster_model.specs.Claims.{Wants}
 use Rattle.cluster_model.specs.Moves.{MayEnter}
 use Rattle.cluster_model.specs.Rules.{ticket_at, end_ticket}
-use Rattle.cluster_model.specs.Progress.{NodeAnswer, is_confirmed, has_failed, answer_once_confirmed, pending_of_call, ask_of_wants, ask_of_found, ask_of, confirmed_entries, wants_entries, entries_with}
+use Rattle.cluster_model.specs.Progress.{NodeAnswer, is_confirmed, has_failed, answer_once_confirmed, pending_of_call, ask_of_wants, ask_of, confirmed_entries, wants_entries, entries_with}
 use Rattle.cluster_model.specs.Progress.NodeAnswer.{Stored, Dropped, Read, Failed}
 use Rattle.cluster_model.specs.Progress.Ask.{Done}
 use Rattle.cluster_model.specs.Deeds.{slot_up, act_of}
@@ -94,20 +93,13 @@ answer_enters : (confirm : ℕ) (slots : List Slot) (own seq : ℕ) (node : Node
     → fin.get node.tickets seq ≡ Some ticket → ask_of confirm ticket ≡ Done answer → (entry : BookEntry) → Among entry (entries_with answer ticket) → MayEnter confirm entry slots
 answer_enters confirm slots own seq node disk ticket answer here stands e entry m = by answer refl m
   where
-    by_found : (found : Option Found) → ask_of_found confirm ticket found ≡ Done answer → ((f : Found) → answer ≡ Read f → ⊥) → ask_of_wants confirm ticket.mishaps ticket.wants ≡ Done answer
-    by_found None g good = g
-    by_found (Some found) g good = absurd (good found (back g))
-      where
-        back : Done (Read found) ≡ Done answer → answer ≡ Read found
-        back g = cc
-
     entered : (list_all (is_confirmed confirm) ticket.wants ≡ true) → Among entry (wants_entries ticket.wants) → MayEnter confirm entry slots
     entered all k = wants_enter confirm slots own seq (slot_up node disk) ticket.wants here
         (λ want inside. (record { ticket = ticket; here = stands; inside = inside }, le_of confirm (count_in want.confirmed) (all_one (is_confirmed confirm) ticket.wants all want inside))) entry k
 
     by : (a : NodeAnswer) → answer ≡ a → Among entry (entries_with a ticket) → MayEnter confirm entry slots
-    by (Stored id confirmers) is k = entered (all_confirmed confirm ticket.mishaps ticket.wants answer (by_found ticket.found e (λ f g. cc (sym is ∙ g))) (λ f g. cc (sym is ∙ g))) k
-    by (Dropped confirmers) is k = entered (all_confirmed confirm ticket.mishaps ticket.wants answer (by_found ticket.found e (λ f g. cc (sym is ∙ g))) (λ f g. cc (sym is ∙ g))) k
+    by (Stored id confirmers) is k = entered (all_confirmed confirm ticket.mishaps ticket.wants answer e (λ f g. cc (sym is ∙ g))) k
+    by (Dropped confirmers) is k = entered (all_confirmed confirm ticket.mishaps ticket.wants answer e (λ f g. cc (sym is ∙ g))) k
     by (Read found) is k = absurd k
     by (Failed mishaps) is k = absurd k
 

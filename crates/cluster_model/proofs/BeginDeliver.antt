@@ -127,7 +127,7 @@ module _ (own nodes seconds : ℕ) (node : Node) (disk : List Record) (users : L
       (λ none. absurd none)
       (subst (λ (t : Ticket). Among want t.wants) is w.inside))
       (λ (apart, old). inl (as_it_was deed seq want (record { ticket = w.ticket; here = old; inside = w.inside })))
-      (found nat_cmp_total exact_unsigned node.tickets (node.calls + 1) (record { kind = Delivering; wants = new_want own (Copies filing) targets ∷ []; mishaps = no_mishaps; found = None }) seq w.ticket w.here)
+      (found nat_cmp_total exact_unsigned node.tickets (node.calls + 1) (record { kind = Delivering; wants = new_want own (Copies filing) targets ∷ []; mishaps = no_mishaps }) seq w.ticket w.here)
     where
       same_filing : (f : NodeFiling) → Copies filing ≡ Copies f → filing ≡ f
       same_filing f g = cc

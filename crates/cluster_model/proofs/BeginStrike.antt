@@ -178,7 +178,7 @@ module _ (own nodes : ℕ) (numbered_ : own ≢ 0) (within : own ≤ nodes) (few
         waits = λ m h. covered seq m r.0 r.1 at h;
       })))
       (λ (apart, old). inl (as_it_was deed seq want (record { ticket = w.ticket; here = old; inside = w.inside })))
-      (found nat_cmp_total exact_unsigned node.tickets (node.calls + 1) (record { kind = Striking; wants = map (λ item. new_want own (Deletion user item.mark.id) item.asks) items; mishaps = no_mishaps; found = None }) seq w.ticket w.here)
+      (found nat_cmp_total exact_unsigned node.tickets (node.calls + 1) (record { kind = Striking; wants = map (λ item. new_want own (Deletion user item.mark.id) item.asks) items; mishaps = no_mishaps }) seq w.ticket w.here)
     where
       same_deletion : (item : StrikeItem) (name : List ℕ) (other : Id) → Deletion user item.mark.id ≡ Deletion name other → (user ≡ name) × (item.mark.id ≡ other)
       same_deletion item name other g = (cc, cc)

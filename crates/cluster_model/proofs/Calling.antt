@@ -7,11 +7,10 @@ use Rattle.mail_model.specs.Book.{BookEntry}
 use Rattle.mail_model.specs.Book.BookEntry.{Struck as StruckEntry}
 use Rattle.object_model.specs.Lists.{Among}
 use Rattle.object_model.specs.Sets.{has, nodes_in}
-use Rattle.cluster_model.specs.Reads.Found.{WrongSecret}
 use Rattle.cluster_model.specs.Cluster.{Node, slot_at, members_of}
 use Rattle.cluster_model.specs.Cluster.CallKind.{Fetching}
 use Rattle.cluster_model.specs.Moves.{Content, IsReady, IsCallDone, MayEnter}
-use Rattle.cluster_model.specs.Rules.{refuse, begin_read}
+use Rattle.cluster_model.specs.Rules.{refuse}
 use Rattle.cluster_model.specs.Targets.{strike_asks}
 use Rattle.cluster_model.specs.Deeds.{slot_up, act_of, IsOfPlan}
 use Rattle.cluster_model.specs.NodeLaws.{content_of}
@@ -20,14 +19,14 @@ use Rattle.cluster_model.specs.Steps.{Struck, NodeCall, Said, mishaps_of_call, i
 use Rattle.cluster_model.specs.Steps.NodeCall.{Deliver, Login, Fetch, Strike, Leave}
 use Rattle.cluster_model.specs.Steps.Step.{Begin}
 use Rattle.cluster_model.specs.Makes.{IsUp, struck_entries, with_struck, targets_for, asked_for, IsFiled, begun_by, NodeGoesDown, BeginsCall}
-use Rattle.cluster_model.specs.Makes.BeginsCall.{FailsAtOnce, Goes, FailsInIt, Reads, FailsReading, Leaves}
+use Rattle.cluster_model.specs.Makes.BeginsCall.{FailsAtOnce, Goes, FailsInIt}
 use Rattle.cluster_model.specs.WorldLaws.{FiledBy, MayBring}
 use Rattle.object_model.proofs.Lists.{among_behind}
 use Rattle.cluster_model.proofs.Aims.{nodes_within, targets_are_members, asks_are_members}
 use Rattle.cluster_model.proofs.Filing.{among_map, map_among}
 use Rattle.cluster_model.proofs.BeginDeliver.{deliver_acts}
 use Rattle.cluster_model.proofs.BeginStrike.{strike_begins}
-use Rattle.cluster_model.proofs.Closing.{refuse_acts, read_acts}
+use Rattle.cluster_model.proofs.Closing.{refuse_acts}
 use Rattle.cluster_model.proofs.Leading.{no_move, led_on, entered_leads}
 use Rattle.cluster_model.proofs.Stepping.{unheard_leads, down_leads, cut_nothing}
 
@@ -45,24 +44,24 @@ module _ (plan : Plan) (tells : Bool) (old : World) (own : ℕ) (numbered : IsOf
   struck_leads : (May : Id → List ℕ → Type 0) (call : NodeCall) → Leads plan.confirm May (cluster_of old) (cluster_of (with_struck old call))
   struck_leads May (Deliver mail) = no_move plan.confirm May (cluster_of old) (cluster_of old) refl
   struck_leads May (Login user proof) = no_move plan.confirm May (cluster_of old) (cluster_of old) refl
-  struck_leads May (Fetch user id from most) = no_move plan.confirm May (cluster_of old) (cluster_of old) refl
-  struck_leads May (Leave user) = no_move plan.confirm May (cluster_of old) (cluster_of old) refl
+  struck_leads May (Fetch user id from most holders) = no_move plan.confirm May (cluster_of old) (cluster_of old) refl
+  struck_leads May (Leave user login manager) = no_move plan.confirm May (cluster_of old) (cluster_of old) refl
   struck_leads May (Strike user items) = entered_leads plan.confirm May (struck_entries user items) (cluster_of old) (λ entry m.
       let r = among_map (λ (item : Struck). StruckEntry user item.id) entry items m in subst (λ (x : BookEntry). MayEnter plan.confirm x old.slots) r.2 tt)
 
   still_up : (call : NodeCall) (node : Node) (disk : List Record) → IsUp old own node disk → slot_at (with_struck old call).slots own ≡ Some (slot_up node disk)
   still_up (Deliver mail) node disk up = up
   still_up (Login user proof) node disk up = up
-  still_up (Fetch user id from most) node disk up = up
+  still_up (Fetch user id from most holders) node disk up = up
   still_up (Strike user items) node disk up = up
-  still_up (Leave user) node disk up = up
+  still_up (Leave user login manager) node disk up = up
 
   -- what is struck is in the book
   is_struck : (node : Node) (call : NodeCall) (user : List ℕ) (id : Id) → Among (user, id) (strikes_of plan own node call) → Among (StruckEntry user id) (with_struck old call).book
   is_struck node (Deliver mail) user id m = absurd m
   is_struck node (Login name proof) user id m = absurd m
-  is_struck node (Fetch name other from most) user id m = absurd m
-  is_struck node (Leave name) user id m = absurd m
+  is_struck node (Fetch name other from most holders) user id m = absurd m
+  is_struck node (Leave name login manager) user id m = absurd m
   is_struck node (Strike name items) user id m =
       let pair = among_map (λ (p : Id × ℕ). (name, p.0)) (user, id) (asked_for plan own node items) m in
       let item = among_map (λ (s : Struck). (s.id, strike_asks plan.confirm own s.targets (nodes_in (members_of node) plan.nodes))) pair.0 items pair.1 in
@@ -77,8 +76,8 @@ module _ (plan : Plan) (tells : Bool) (old : World) (own : ℕ) (numbered : IsOf
   goes_acts node disk (Deliver mail) octets filed ready = deliver_acts own plan.nodes old.seconds node disk mail.mailboxes octets (targets_for plan own node)
       (λ m h. nodes_within (members_of node) plan.nodes m (targets_are_members plan.copies own (node.drawn + 1) (nodes_in (members_of node) plan.nodes) m h)) filed.1 ready
   goes_acts node disk (Login user proof) octets filed ready = absurd filed
-  goes_acts node disk (Fetch user id from most) octets filed ready = absurd filed
-  goes_acts node disk (Leave user) octets filed ready = absurd filed
+  goes_acts node disk (Fetch user id from most holders) octets filed ready = absurd filed
+  goes_acts node disk (Leave user login manager) octets filed ready = absurd filed
   goes_acts node disk (Strike user items) octets filed ready = strike_begins own plan.nodes numbered.some numbered.within numbered.few node disk user (asked_for plan own node items)
       (λ pair m n h.
       let item = among_map (λ (s : Struck). (s.id, strike_asks plan.confirm own s.targets (nodes_in (members_of node) plan.nodes))) pair items m in
@@ -95,9 +94,9 @@ module _ (plan : Plan) (tells : Bool) (old : World) (own : ℕ) (numbered : IsOf
       same : (c : Content) → Some (content_of own node mail.mailboxes octets) ≡ Some c → content_of own node mail.mailboxes octets ≡ c
       same c e = cc
   files_told node disk (Login user proof) octets up filed content e = absurd (cc e)
-  files_told node disk (Fetch user id from most) octets up filed content e = absurd (cc e)
+  files_told node disk (Fetch user id from most holders) octets up filed content e = absurd (cc e)
   files_told node disk (Strike user items) octets up filed content e = absurd (cc e)
-  files_told node disk (Leave user) octets up filed content e = absurd (cc e)
+  files_told node disk (Leave user login manager) octets up filed content e = absurd (cc e)
 
   -- its disk fails in it, or memory runs out
   pub fails_lead : (call : NodeCall) (node : Node) (disk : List Record) (octets : List ℕ) (new : World) → IsUp old own node disk → IsFiled old own node call octets
@@ -119,11 +118,3 @@ module _ (plan : Plan) (tells : Bool) (old : World) (own : ℕ) (numbered : IsOf
       (unheard_leads plan.confirm (MayBring old (Begin own call)) (with_struck old call) own node disk (begun_by plan old own node disk call octets) (files_of own node call octets) (strikes_of plan own node call)
       (still_up call node disk up) (λ ready. goes_acts node disk call octets filed ready) (λ user id m. is_struck node call user id m) (λ content e. files_told node disk call octets up filed content e)))
   begins_lead call said new (FailsInIt node disk octets up filed is g) = fails_lead call node disk octets new up filed g
-  begins_lead call said new (Reads node disk kind what up one goes of_kind finds is new_world) = subst (λ (w : World). Leads plan.confirm (MayBring old (Begin own call)) (cluster_of old) (cluster_of w)) (sym new_world)
-      (unheard_leads plan.confirm (MayBring old (Begin own call)) old own node disk (begin_read kind what node disk) None []
-      up (λ ready. read_acts own node disk ready kind what) (λ user id m. absurd m) (λ content e. absurd (cc e)))
-  begins_lead call said new (FailsReading node disk user id from most up one goes reads is new_world) =
-      down_leads plan.confirm (MayBring old (Begin own call)) old new own node disk (begin_read Fetching WrongSecret node disk) None None [] up
-      (λ ready. read_acts own node disk ready Fetching WrongSecret) (λ letter e. absurd (cc e)) (λ user_ id_ m. absurd m) (λ content e. absurd (cc e))
-      (record { front = []; pending = []; one = omega arith; cut = cut_nothing disk; is = new_world })
-  begins_lead call said new (Leaves node disk user up one leaves is new_world) = no_move plan.confirm (MayBring old (Begin own call)) (cluster_of old) (cluster_of new) (ap cluster_of new_world)

@@ -7,18 +7,17 @@ use Rattle.mail_model.specs.Record.{Record}
 use Rattle.object_model.specs.Sets.{has, with_node, without_node}
 use Rattle.object_model.specs.Lists.{Among}
 use Rattle.object_model.specs.Letters.{Number, Letter}
-use Rattle.cluster_model.specs.Reads.{Found}
 use Rattle.cluster_model.specs.Cluster.{AskedOfNodes, Want, Ticket, Node, Life, CallKind}
 use Rattle.cluster_model.specs.Cluster.Life.{Up}
 use Rattle.cluster_model.specs.Claims.{Wants, LifeWaits, Covers, Covered}
 use Rattle.cluster_model.specs.Moves.{IsCallDone, IsReady}
-use Rattle.cluster_model.specs.Rules.{Reaction, idle, with_ticket, end_ticket, refuse, begin_read, failed_want, failed_at, mishap}
+use Rattle.cluster_model.specs.Rules.{Reaction, idle, with_ticket, end_ticket, refuse, failed_want, failed_at, mishap}
 use Rattle.object_model.proofs.SetLaws.{left_in}
 use Rattle.object_model.proofs.MapLaws.{found, left_found}
 use Rattle.cluster_model.specs.Deeds.{act_of, slot_up}
 use Rattle.cluster_model.proofs.Tickets.{Came, Begins, numbered, tickets_react, rewanted, as_it_was}
 use Rattle.cluster_model.proofs.HearTold.{still_acts}
-use Rattle.object_model.specs.Mishaps.{MishapKind, Mishaps, no_mishaps, counted}
+use Rattle.object_model.specs.Mishaps.{MishapKind, Mishaps, counted}
 
 -- what becomes of a want at which a node fails
 record Failed (at : ℕ) (old new : Want) : Type 0 where
@@ -78,10 +77,7 @@ module _ (own : ℕ) (node : Node) (disk : List Record) (ready : IsReady own (sl
       did = record { node = record node { drawn = drawn; calls = node.calls + 1; tickets = fin.insert node.tickets (node.calls + 1) ticket }; disk = disk; out = [] }
 
   pub refuse_acts : (kind : CallKind) (mishaps : Mishaps) (drawn : ℕ) → IsCallDone (act_of own node disk (refuse kind mishaps drawn node disk) None None [])
-  refuse_acts kind mishaps drawn = asks_nothing (node.drawn + drawn) (record { kind = kind; wants = []; mishaps = mishaps; found = None }) (omega arith) refl
-
-  pub read_acts : (kind : CallKind) (found : Found) → IsCallDone (act_of own node disk (begin_read kind found node disk) None None [])
-  read_acts kind found = asks_nothing node.drawn (record { kind = kind; wants = []; mishaps = no_mishaps; found = Some found }) (le_refl node.drawn) refl
+  refuse_acts kind mishaps drawn = asks_nothing (node.drawn + drawn) (record { kind = kind; wants = []; mishaps = mishaps }) (omega arith) refl
 
   pub end_acts : (seq : ℕ) → IsCallDone (act_of own node disk (end_ticket seq node disk) None None [])
   end_acts seq = still_acts own node disk None after refl refl (le_refl node.drawn) ready (tickets_react own node disk (end_ticket seq node disk) None None [] refl

@@ -12,7 +12,7 @@ use Rattle.object_model.specs.Mishaps.MishapKind.{Crowded}
 use Rattle.object_model.specs.Lists.{Among}
 use Rattle.object_model.proofs.Lists.{among_either, same_some}
 use Rattle.cluster_model.specs.Cluster.{Slot, slot_at, with_slot}
-use Rattle.cluster_model.specs.Rules.{Reaction, push, widen, begin_read, end_ticket, refuse}
+use Rattle.cluster_model.specs.Rules.{Reaction, push, widen, end_ticket, refuse}
 use Rattle.cluster_model.specs.Deeds.{slot_up, hear}
 use Rattle.cluster_model.specs.Room.{Flight, has_room, keys_pushed}
 use Rattle.cluster_model.specs.World.{World, missed, put, flies_on}
@@ -22,7 +22,7 @@ use Rattle.cluster_model.specs.Steps.NodeCall.{Deliver, Login, Fetch, Strike, Le
 use Rattle.cluster_model.specs.Steps.Step.{Begin, AskFor, GiveUp, Post, DropLetter, PushTo, Widen, Form, Crash, Start, Lose, Tick}
 use Rattle.cluster_model.specs.Steps.StepOutcome.{Says, Refused, NoMemory}
 use Rattle.cluster_model.specs.Makes.{after, struck_entries, with_struck, cut_world, begun_by, BeginsCall, AnswersAsk, Posts, Pushes, Widens, FormsAt, StartsUp, RunsShort, DoesStep, MakesStep}
-use Rattle.cluster_model.specs.Makes.BeginsCall.{FailsAtOnce, Goes, FailsInIt, Reads, FailsReading, Leaves}
+use Rattle.cluster_model.specs.Makes.BeginsCall.{FailsAtOnce, Goes, FailsInIt}
 use Rattle.cluster_model.specs.Makes.AnswersAsk.{Waits, Ends}
 use Rattle.cluster_model.specs.Makes.Posts.{NobodyUp, OfOtherEpoch, TooLate, IsHeard, FailsHearing, IsForMaps, FailsForMaps}
 use Rattle.cluster_model.specs.Makes.Pushes.{Sends, FailsPushing}
@@ -31,6 +31,8 @@ use Rattle.cluster_model.specs.Makes.FormsAt.{Does, HasNone, FailsForming}
 use Rattle.cluster_model.specs.Makes.StartsUp.{Comes, FailsStarting}
 use Rattle.cluster_model.specs.Makes.RunsShort.{Beginning, Hearing, Widening, Forming, Starting}
 use Rattle.cluster_model.proofs.Slots.{read_after}
+use Rattle.cluster_model.proofs.Reading.{SeesOne, SeesFall, begins_seen, answers_seen, gives_up_seen, posts_seen, drops_seen}
+use Rattle.cluster_model.proofs.Reading.SeesOne.{Turns, Refuses, Sends as SendsOne, Takes}
 
 -- the entry says that something is confirmed
 abbrev pub IsConfirmation : BookEntry → Type 0
@@ -81,7 +83,29 @@ put_book room (letter ∷ letters) w = by (λ v. put_book room letters v) (room 
 after_book : (w : World) (own : ℕ) (did : Reaction) → (after w own did).book ≡ w.book
 after_book w own did = put_book has_room did.out (record w { slots = with_slot w.slots own (slot_up did.node did.disk) })
 
+-- what calls that read enter is confirmed by none
+abbrev Plainly : World → World → Type 0
+Plainly old new = (entries : List BookEntry) × (new.book ≡ old.book ++ entries) × NoneConfirms entries
+
+plainly_stays : (w : World) → Plainly w w
+plainly_stays w = ([], sym (append-nil w.book), none)
+
+plainly_then : (a b c : World) → Plainly a b → Plainly b c → Plainly a c
+plainly_then a b c (first, is, quiet) (others, goes, still) = (first ++ others, goes ∙ ap (λ (l : List BookEntry). l ++ others) is ∙ append_assoc a.book first others, both_none first others quiet still)
+
+sees_plainly : (a b : World) → SeesOne a b → Plainly a b
+sees_plainly a b (Turns own node disk calls count up e) = ([], ap (λ (w : World). w.book) e ∙ sym (append-nil a.book), none)
+sees_plainly a b (Refuses own node disk kind mishaps up e) = ([], ap (λ (w : World). w.book) e ∙ sym (append-nil a.book), none)
+sees_plainly a b (SendsOne letter l e) = ([], ap (λ (w : World). w.book) e ∙ sym (append-nil a.book), none)
+sees_plainly a b (Takes number flies keep of e) = ([], ap (λ (w : World). w.book) e ∙ sym (append-nil a.book), none)
+
+fall_plainly : (own : ℕ) (a b : World) → SeesFall own a b → Plainly a b
+fall_plainly own a b f = (WentDown own ∷ [], ap (λ (w : World). w.book) f.is, one_entry (WentDown own) (λ never. never))
+
 module _ (old new : World) where
+  plainly_enters : Plainly old new → Enters old new
+  plainly_enters (entries, is, quiet) = record { entries = entries; book = is; confirms = inl quiet }
+
   with_entries : (entries : List BookEntry) → new.book ≡ old.book ++ entries → NoneConfirms entries → Enters old new
   with_entries entries e n = record { entries = entries; book = e; confirms = inl n }
 
@@ -93,8 +117,8 @@ module _ (old new : World) where
   call_entries (Strike user items) = (struck_entries user items, refl, struck_none user items)
   call_entries (Deliver mail) = ([], sym (append-nil old.book), none)
   call_entries (Login user proof) = ([], sym (append-nil old.book), none)
-  call_entries (Fetch user id from most) = ([], sym (append-nil old.book), none)
-  call_entries (Leave user) = ([], sym (append-nil old.book), none)
+  call_entries (Fetch user id from most holders) = ([], sym (append-nil old.book), none)
+  call_entries (Leave user login manager) = ([], sym (append-nil old.book), none)
 
   begun_enters : (call : NodeCall) (own : ℕ) (did : Reaction) → new ≡ after (with_struck old call) own did → Enters old new
   begun_enters call own did e = let (entries, is, none_is) = call_entries call in
@@ -115,9 +139,6 @@ module _ (old new : World) where
   begins_enters plan tells own call said (FailsAtOnce node disk kind up of_kind fails is e) = begun_enters call own (refuse kind (mishaps_of_call plan old.seconds node call) (ids_drawn call) node disk) e
   begins_enters plan tells own call said (Goes node disk octets up fails filed is e) = begun_enters call own (begun_by plan old own node disk call octets) e
   begins_enters plan tells own call said (FailsInIt node disk octets up filed is g) = call_cut_enters call own disk g.front g.pending g.is
-  begins_enters plan tells own call said (Reads node disk kind found up one goes of_kind finds is e) = same_book (ap (λ (w : World). w.book) e ∙ after_book old own (begin_read kind found node disk))
-  begins_enters plan tells own call said (FailsReading node disk user id from most up one goes reads is e) = cut_enters own disk [] [] e
-  begins_enters plan tells own call said (Leaves node disk user up one leaves is e) = same_book (ap (λ (w : World). w.book) e)
 
   asks_enter : (plan : Plan) (number : Number) (said : Said) → AnswersAsk plan old number said new → Enters old new
   asks_enter plan number said (Waits node disk ticket up found got wanted pends is e) = same_book (ap (λ (w : World). w.book) e)
@@ -157,11 +178,16 @@ module _ (old new : World) where
   starts_enter plan n said (FailsStarting disk pending next records here stops is e) = down_enters n (ap (λ (w : World). w.book) e)
 
   does_enter : (plan : Plan) (tells : Bool) (step : Step) (said : Said) → DoesStep plan tells old step said new → Enters old new
-  does_enter plan tells (Begin node call) said d = begins_enters plan tells node call said d
-  does_enter plan tells (AskFor ticket) said d = asks_enter plan ticket said d
-  does_enter plan tells (GiveUp ticket) said d = same_book (ap (λ (w : World). w.book) d.new_world ∙ after_book old ticket.node (end_ticket ticket.seq d.node d.disk))
-  does_enter plan tells (Post letter keep) said d = posts_enter plan letter keep said d
-  does_enter plan tells (DropLetter letter) said d = same_book (ap (λ (w : World). w.book) d.new_world)
+  does_enter plan tells (Begin node call) said (inl d) = begins_enters plan tells node call said d
+  does_enter plan tells (Begin node call) said (inr d) = plainly_enters (begins_seen Plainly plainly_stays plainly_then sees_plainly plan node call said old new (λ n e a b f. fall_plainly n a b f) d)
+  does_enter plan tells (AskFor ticket) said (inl d) = asks_enter plan ticket said d
+  does_enter plan tells (AskFor ticket) said (inr d) = plainly_enters (answers_seen Plainly plainly_stays plainly_then sees_plainly ticket said old new d)
+  does_enter plan tells (GiveUp ticket) said (inr d) = plainly_enters (gives_up_seen Plainly plainly_stays plainly_then sees_plainly ticket said old new d)
+  does_enter plan tells (GiveUp ticket) said (inl d) = same_book (ap (λ (w : World). w.book) d.new_world ∙ after_book old ticket.node (end_ticket ticket.seq d.node d.disk))
+  does_enter plan tells (Post letter keep) said (inl d) = posts_enter plan letter keep said d.0
+  does_enter plan tells (Post letter keep) said (inr d) = plainly_enters (posts_seen Plainly plainly_stays plainly_then sees_plainly letter keep said old new (λ n e a b f. fall_plainly n a b f) d)
+  does_enter plan tells (DropLetter letter) said (inl d) = same_book (ap (λ (w : World). w.book) d.0.new_world)
+  does_enter plan tells (DropLetter letter) said (inr d) = plainly_enters (drops_seen Plainly plainly_stays plainly_then sees_plainly letter said old new d)
   does_enter plan tells (PushTo from to) said d = pushes_enter from to said d
   does_enter plan tells (Widen at user id to) said d = widens_enter at to (Message user id) said d
   does_enter plan tells (Form node) said d = forms_enter node said d

@@ -9,15 +9,14 @@ use Rattle.object_model.specs.Sets.{has, with_node, without_node, count_in}
 use Rattle.object_model.specs.Letters.{Body}
 use Rattle.object_model.specs.Mishaps.{MishapKind, Mishaps, one_more, counted, mishaps_of}
 use Rattle.object_model.specs.Mishaps.MishapKind.{FewMembers, Year, Dropped as WasDropped, Stale, Down, Disk, Crowded}
-use Rattle.cluster_model.specs.Reads.{Found}
 use Rattle.cluster_model.specs.Cluster.{NodeFiling, AskedOfNodes, Want, CallKind, Ticket}
 use Rattle.cluster_model.specs.Cluster.AskedOfNodes.{Copies, Deletion}
 use Rattle.cluster_model.specs.Rules.{StrikeItem, tells, new_want, told_want, told_ticket, failed_want}
-use Rattle.cluster_model.specs.Progress.{is_confirmed, can_be_confirmed, has_failed, answer_once_confirmed, pending_of_call, ask_of_wants, ask_of_found, ask_of}
+use Rattle.cluster_model.specs.Progress.{is_confirmed, can_be_confirmed, has_failed, answer_once_confirmed, pending_of_call, ask_of_wants, ask_of}
 use Rattle.cluster_model.specs.Progress.NodeAnswer.{Failed}
 use Rattle.cluster_model.specs.Progress.Ask.{Done}
 use Rattle.cluster_model.specs.RuleLaws.{IsNodeAsked}
-use Rattle.cluster_model.specs.TicketLaws.{all_asked, IsFair, delivery_ticket, deletion_ticket, reading_ticket}
+use Rattle.cluster_model.specs.TicketLaws.{all_asked, IsFair, delivery_ticket, deletion_ticket}
 use Rattle.object_model.proofs.SetLaws.{or_has, has_left, has_right, left_in, has_none}
 use Rattle.cluster_model.proofs.Filing.{among_map}
 use Rattle.cluster_model.proofs.Counting.{count_le}
@@ -67,25 +66,21 @@ not_empty f (x ∷ xs) e = absurd (cc e)
 pub begin_fair : (confirm own : ℕ)
     → ((filing : NodeFiling) (targets : ℕ) → confirm ≤ count_in targets → IsFair confirm (delivery_ticket own filing targets))
     × ((user : List ℕ) (items : List StrikeItem) → items ≢ [] → ((item : StrikeItem) → Among item items → confirm ≤ count_in item.asks) → IsFair confirm (deletion_ticket own user items))
-    × ((kind : CallKind) (mishaps : Mishaps) → 0 < mishaps_of mishaps → IsFair confirm (record { kind = kind; wants = []; mishaps = mishaps; found = None }))
-    × ((kind : CallKind) (found : Found) → IsFair confirm (reading_ticket kind found))
+    × ((kind : CallKind) (mishaps : Mishaps) → 0 < mishaps_of mishaps → IsFair confirm (record { kind = kind; wants = []; mishaps = mishaps }))
 begin_fair confirm own = (
   λ filing targets le. record {
     enough = λ want m. ⊎_elim (λ is. subst (λ (w : Want). confirm ≤ count_in (all_asked w)) is (begins (Copies filing) targets le)) (λ none. absurd none) m;
     caused = λ want m n h. ⊎_elim (λ is. absurd (true≢false (sym (subst (λ (w : Want). has w.failed n ≡ true) (sym is) h) ∙ has_none n))) (λ none. absurd none) m;
-    at_once = λ f e. absurd (cc e);
-    reads = λ found e. absurd (cc e);
+    at_once = λ e. absurd (cc e);
   },
   λ user items some each. record {
     enough = λ want m. let r = among_map (λ (item : StrikeItem). new_want own (Deletion user item.mark.id) item.asks) want items m in
         subst (λ (w : Want). confirm ≤ count_in (all_asked w)) r.2 (begins (Deletion user r.0.mark.id) r.0.asks (each r.0 r.1));
     caused = λ want m n h. let r = among_map (λ (item : StrikeItem). new_want own (Deletion user item.mark.id) item.asks) want items m in
         absurd (true≢false (sym (subst (λ (w : Want). has w.failed n ≡ true) (sym r.2) h) ∙ has_none n));
-    at_once = λ f e. absurd (some (not_empty (λ (item : StrikeItem). new_want own (Deletion user item.mark.id) item.asks) items e));
-    reads = λ found e. absurd (cc e);
+    at_once = λ e. absurd (some (not_empty (λ (item : StrikeItem). new_want own (Deletion user item.mark.id) item.asks) items e));
   },
-  λ kind mishaps above. record { enough = λ want m. absurd m; caused = λ want m. absurd m; at_once = λ f e. above; reads = λ found e. absurd (cc e) },
-  λ kind found. record { enough = λ want m. absurd m; caused = λ want m. absurd m; at_once = λ f e. absurd (cc f); reads = λ other e. refl },
+  λ kind mishaps above. record { enough = λ want m. absurd m; caused = λ want m. absurd m; at_once = λ e. above },
 )
   where
     begins : (asked : AskedOfNodes) (targets : ℕ) → confirm ≤ count_in targets → confirm ≤ count_in (all_asked (new_want own asked targets))
@@ -107,15 +102,13 @@ stay_fair confirm ticket fair = (
         subst (λ (w : Want). confirm ≤ count_in (all_asked w)) r.2 (no_fewer confirm r.0 (told_want body from r.0) (λ n a. asked_told body from r.0 n a) (fair.enough r.0 r.1));
     caused = λ want m n h. let r = among_map (told_want body from) want ticket.wants m in
         fair.caused r.0 r.1 n (told_failed body from r.0 n (subst (λ (w : Want). has w.failed n ≡ true) (sym r.2) h));
-    at_once = λ f e. fair.at_once f (not_empty (told_want body from) ticket.wants e);
-    reads = λ found e. ap (map (told_want body from)) (fair.reads found e);
+    at_once = λ e. fair.at_once (not_empty (told_want body from) ticket.wants e);
   },
   λ kind at. record {
     enough = λ want m. let r = among_map (failed_want at) want ticket.wants m in
         subst (λ (w : Want). confirm ≤ count_in (all_asked w)) r.2 (no_fewer confirm r.0 (failed_want at r.0) (λ n a. asked_failed at r.0 n a) (fair.enough r.0 r.1));
     caused = λ want m n h. counted_some kind ticket.mishaps;
-    at_once = λ f e. counted_some kind ticket.mishaps;
-    reads = λ found e. ap (map (failed_want at)) (fair.reads found e);
+    at_once = λ e. counted_some kind ticket.mishaps;
   },
 )
 
@@ -136,7 +129,7 @@ can_all confirm (want ∷ wants) each =
 
 -- a call fails only where it had a mishap
 pub failed_cause : (confirm : ℕ) (ticket : Ticket) (mishaps : Mishaps) → IsFair confirm ticket → ask_of confirm ticket ≡ Done (Failed mishaps) → 0 < mishaps_of mishaps
-failed_cause confirm ticket mishaps fair e = by_found ticket.found refl e
+failed_cause confirm ticket mishaps fair e = by e (nat_lt 0 (mishaps_of ticket.mishaps)) refl
   where
     done_same : (a b : Mishaps) → Done (Failed a) ≡ Done (Failed b) → a ≡ b
     done_same a b f = cc
@@ -171,16 +164,12 @@ failed_cause confirm ticket mishaps fair e = by_found ticket.found refl e
     none : (n : ℕ) → nat_lt 0 n ≡ false → 0 < n → ⊥
     none n f lt = true≢false (sym (grind (arith, nat_tests)) ∙ f)
 
-    by : ticket.found ≡ None → ask_of_wants confirm ticket.mishaps ticket.wants ≡ Done (Failed mishaps) → (b : Bool) → nat_lt 0 (mishaps_of ticket.mishaps) ≡ b → 0 < mishaps_of mishaps
-    by unread e true f = subst (λ (m : Mishaps). 0 < mishaps_of m) (goes ticket.wants refl e).0 (above (mishaps_of ticket.mishaps) f)
-    by unread e false f = absurd (⊎_elim
-        (λ empty. none (mishaps_of ticket.mishaps) f (fair.at_once unread empty))
+    by : ask_of_wants confirm ticket.mishaps ticket.wants ≡ Done (Failed mishaps) → (b : Bool) → nat_lt 0 (mishaps_of ticket.mishaps) ≡ b → 0 < mishaps_of mishaps
+    by e true f = subst (λ (m : Mishaps). 0 < mishaps_of m) (goes ticket.wants refl e).0 (above (mishaps_of ticket.mishaps) f)
+    by e false f = absurd (⊎_elim
+        (λ empty. none (mishaps_of ticket.mishaps) f (fair.at_once empty))
         (λ few. true≢false (sym (can_all confirm ticket.wants (λ want m. (fair.enough want m, λ n h. none (mishaps_of ticket.mishaps) f (fair.caused want m n h)))) ∙ few))
         (goes ticket.wants refl e).1)
-
-    by_found : (found : Option Found) → ticket.found ≡ found → ask_of_found confirm ticket found ≡ Done (Failed mishaps) → 0 < mishaps_of mishaps
-    by_found None unread g = by unread g (nat_lt 0 (mishaps_of ticket.mishaps)) refl
-    by_found (Some found) read g = absurd (cc g)
 
 -- where all have answered and none failed, all are confirmed
 confirmed_all : (confirm : ℕ) (wants : List Want) → ((want : Want) → Among want wants → (confirm ≤ count_in (all_asked want)) × (want.waiting ≡ 0) × (want.failed ≡ 0)) → list_all (is_confirmed confirm) wants ≡ true
@@ -199,10 +188,6 @@ confirmed_all confirm (want ∷ wants) each =
 
 pub heard_done : (confirm : ℕ) (ticket : Ticket) (want : Want) (wants : List Want) → IsFair confirm ticket → ticket.wants ≡ want ∷ wants
     → ((one : Want) → Among one ticket.wants → (one.waiting ≡ 0) × (one.failed ≡ 0)) → ask_of confirm ticket ≡ Done (answer_once_confirmed (want ∷ wants) want want.asked)
-heard_done confirm ticket want wants fair is heard = unread ticket.found refl ∙ ap (ask_of_wants confirm ticket.mishaps) is
+heard_done confirm ticket want wants fair is heard = ap (ask_of_wants confirm ticket.mishaps) is
     ∙ ap (λ b. if b then Done (answer_once_confirmed (want ∷ wants) want want.asked) else (if has_failed confirm (want ∷ wants) then Done (Failed ticket.mishaps) else pending_of_call confirm (want ∷ wants) want want.asked))
     (confirmed_all confirm (want ∷ wants) (λ one m. let there = subst (Among one) (sym is) m in let h = heard one there in (fair.enough one there, h.0, h.1)))
-  where
-    unread : (found : Option Found) → ticket.found ≡ found → ask_of_found confirm ticket found ≡ ask_of_wants confirm ticket.mishaps ticket.wants
-    unread None e = refl
-    unread (Some found) e = absurd (let none = sym is ∙ fair.reads found e in cc none)

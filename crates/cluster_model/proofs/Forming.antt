@@ -73,15 +73,15 @@ step_of own Brought Acks store None = subst (λ d. StoreStep own [] Brought Acks
 step_of own Brought Acks store (Some epoch) = promise_step own Brought Acks store epoch
 
 -- what letters of membership and maps say of messages: nothing
-record SaysNothing (to : ℕ) (body : Body) : Type 0 where
-  holds : (id : Id) (octets : List ℕ) → BodyHolds body id octets → ⊥
-  file : (id : Id) (stamp : Stamp) (targets : ℕ) (users : List (List ℕ)) (octets : List ℕ) → body ≡ File id stamp targets users octets → ⊥
-  filed : (id : Id) → body ≡ Filed id → ⊥
-  claims : (from m : ℕ) (fact : Fact) → BodyClaims from body m fact → ⊥
-  speaks : (user : List ℕ) (id : Id) → BodySpeaks body user id → ⊥
-  fit : BodyFits to body
-  asks : (asked : AskedOfNodes) → Asks body asked → ⊥
-  tells : (asked : AskedOfNodes) → Tells body asked → ⊥
+pub record SaysNothing (to : ℕ) (body : Body) : Type 0 where
+  pub holds : (id : Id) (octets : List ℕ) → BodyHolds body id octets → ⊥
+  pub file : (id : Id) (stamp : Stamp) (targets : ℕ) (users : List (List ℕ)) (octets : List ℕ) → body ≡ File id stamp targets users octets → ⊥
+  pub filed : (id : Id) → body ≡ Filed id → ⊥
+  pub claims : (from m : ℕ) (fact : Fact) → BodyClaims from body m fact → ⊥
+  pub speaks : (user : List ℕ) (id : Id) → BodySpeaks body user id → ⊥
+  pub fit : BodyFits to body
+  pub asks : (asked : AskedOfNodes) → Asks body asked → ⊥
+  pub tells : (asked : AskedOfNodes) → Tells body asked → ⊥
 
 says_nothing : (to : ℕ) (body : Body) → IsMapsBody body → SaysNothing to body
 says_nothing to (Group epoch) of = record { holds = λ id o h. h; file = λ id s t u o e. cc; filed = λ id e. cc; claims = λ f m fact c. c; speaks = λ u id s. s; fit = tt; asks = λ a k. k; tells = λ a k. k }

@@ -31,6 +31,7 @@ pub mod Missing
 pub mod Aims
 pub mod Stepping
 pub mod Forming
+pub mod Reading
 pub mod Asking
 pub mod Calling
 pub mod Posting

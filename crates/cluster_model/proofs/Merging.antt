@@ -1,5 +1,5 @@
 -- What disks say once a step was made.
-use Rattle.std.proofs.Common.{◌≡◌, ◌≢◌, ⊎_elim, ℕ, zero, suc, ◌+◌, Bool, true, false, List, [], ◌∷◌, ◌++◌, append-nil, Option, Some, None, refl, sym, ap, ◌∙◌, subst, nat_eq, if◌then◌else◌}
+use Rattle.std.proofs.Common.{◌≡◌, ◌≢◌, inl, inr, ⊎_elim, ℕ, zero, suc, ◌+◌, Bool, true, false, List, [], ◌∷◌, ◌++◌, append-nil, Option, Some, None, refl, sym, ap, ◌∙◌, subst, nat_eq, if◌then◌else◌}
 use Rattle.std.specs.Prelude.{not, ◌&&◌}
 use Rattle.std.specs.FinMap as fin
 use Rattle.std.proofs.lemmas.Bool.{cases_eq}
@@ -22,7 +22,7 @@ use Rattle.object_model.proofs.SaidLaws.{said_octets, said_retired}
 use Rattle.cluster_model.specs.Cluster.{Ticket, Node, Life, Slot, slot_at, with_slot, epoch_of}
 use Rattle.cluster_model.specs.Cluster.Life.{Up, Down, Lost}
 use Rattle.cluster_model.specs.Store.{Update, take_all, here_updates, gone_updates, is_wanted, with_octets, updates_of}
-use Rattle.cluster_model.specs.Rules.{Reaction, store_of, mishap, failed_at, with_pushed, told_at, ticket_at, acked_at, shrunk, retired_at, idle, letters_to, receivers, with_updates, push, widened, begin_read, dated, marks_for, end_ticket, refuse}
+use Rattle.cluster_model.specs.Rules.{Reaction, store_of, mishap, failed_at, with_pushed, told_at, ticket_at, acked_at, shrunk, retired_at, idle, letters_to, receivers, with_updates, push, widened, dated, marks_for, end_ticket, refuse}
 use Rattle.cluster_model.specs.Forms.{promise_records}
 use Rattle.cluster_model.specs.Thrown.{with_stamps}
 use Rattle.cluster_model.specs.Deeds.{slot_up, hear, hear_body}
@@ -33,7 +33,7 @@ use Rattle.cluster_model.specs.Steps.NodeCall.{Deliver, Login, Fetch, Strike, Le
 use Rattle.cluster_model.specs.Steps.Step.{Begin, AskFor, GiveUp, Post, DropLetter, PushTo, Widen, Form, Crash, Start, Lose, Tick}
 use Rattle.cluster_model.specs.Steps.Said.{Faulted}
 use Rattle.cluster_model.specs.Makes.{after, with_struck, begun_by, targets_for, asked_for, IsFiled, BeginsCall, AnswersAsk, Posts, Pushes, Widens, FormsAt, DoesStep}
-use Rattle.cluster_model.specs.Makes.BeginsCall.{FailsAtOnce, Goes, FailsInIt, Reads, FailsReading, Leaves}
+use Rattle.cluster_model.specs.Makes.BeginsCall.{FailsAtOnce, Goes, FailsInIt}
 use Rattle.cluster_model.specs.Makes.AnswersAsk.{Waits, Ends}
 use Rattle.cluster_model.specs.Makes.Posts.{NobodyUp, OfOtherEpoch, TooLate, IsHeard, FailsHearing, IsForMaps, FailsForMaps}
 use Rattle.cluster_model.specs.Makes.Pushes.{Sends, FailsPushing}
@@ -44,6 +44,8 @@ use Rattle.cluster_model.specs.StepMerges.StepTakes.{TakesNone, OfLetter, OfDeli
 use Rattle.cluster_model.proofs.Slots.{at_same}
 use Rattle.cluster_model.proofs.Merged.{says_merge}
 use Rattle.cluster_model.proofs.Forming.{said_with_promise}
+use Rattle.cluster_model.proofs.Reading.{SeesOne, SeesFall, begins_seen, answers_seen, gives_up_seen, posts_seen, drops_seen}
+use Rattle.cluster_model.proofs.Reading.SeesOne.{Turns, Refuses, Sends as SendsOne, Takes as TakesOut}
 
 slot_other : (slots : List Slot) (n m : ℕ) (y : Slot) → m ≢ n → slot_at (with_slot slots n y) m ≡ slot_at slots m
 slot_other slots zero m y h = refl
@@ -195,12 +197,34 @@ module _ (plan : Plan) (old new : World) (step : Step) where
   slots_take : (slots : List Slot) → new.slots ≡ slots → SameDisks old.slots slots → Takes plan old step new
   slots_take slots e same = takes_none (λ m. ap (λ (xs : List Slot). disk_at (slot_at xs m)) e ∙ same m)
 
+-- what messages see of calls that read changes no disk
+abbrev Keeps : World → World → Type 0
+Keeps old new = SameDisks old.slots new.slots
+
+keeps_stays : (w : World) → Keeps w w
+keeps_stays w m = refl
+
+keeps_then : (a b c : World) → Keeps a b → Keeps b c → Keeps a c
+keeps_then a b c first others m = others m ∙ first m
+
+sees_keep : (a b : World) → SeesOne a b → Keeps a b
+sees_keep a b (Turns own node disk calls count up e) m = ap (λ (w : World). disk_at (slot_at w.slots m)) e
+    ∙ write_same a.slots own (slot_up node disk) (slot_up (record node { calls = calls; count = count }) disk) up refl m
+sees_keep a b (Refuses own node disk kind mishaps up e) m = ap (λ (w : World). disk_at (slot_at w.slots m)) e
+    ∙ write_same a.slots own (slot_up node disk) (slot_up (refuse kind mishaps 0 node disk).node disk) up refl m
+sees_keep a b (SendsOne letter l e) m = ap (λ (w : World). disk_at (slot_at w.slots m)) e
+sees_keep a b (TakesOut number flies keep of e) m = ap (λ (w : World). disk_at (slot_at w.slots m)) e
+
+fall_keeps : (own : ℕ) (a b : World) → SeesFall own a b → Keeps a b
+fall_keeps own a b f m = ap (λ (w : World). disk_at (slot_at w.slots m)) f.is
+    ∙ write_same a.slots own (slot_up f.node f.disk) (record { life = Down []; disk = f.disk ++ [] }) f.up (append-nil f.disk) m
+
 struck_slots : (old : World) (call : NodeCall) → (with_struck old call).slots ≡ old.slots
 struck_slots old (Strike user items) = refl
 struck_slots old (Deliver mail) = refl
 struck_slots old (Login user proof) = refl
-struck_slots old (Fetch user id from most) = refl
-struck_slots old (Leave user) = refl
+struck_slots old (Fetch user id from most holders) = refl
+struck_slots old (Leave user login manager) = refl
 
 not_faulted : (step : Step) (said : Said) (n : ℕ) → said ≡ Faulted n → IsDoneWhole step said → ((node : ℕ) → step ≡ Start node → ⊥) → ((node : ℕ) → step ≡ Lose node → ⊥) → ⊥
 not_faulted (Begin node call) said n e whole a b = subst (IsDoneWhole (Begin node call)) e whole
@@ -257,18 +281,14 @@ module _ (plan : Plan) (tells : Bool) (old new : World) where
             (λ key. says_merge own (gone_updates user (all_nodes plan.nodes) marks) (store_of node disk) key),
       )
   goes_take own (Login user proof) node disk octets up filed e = absurd filed
-  goes_take own (Fetch user id from most) node disk octets up filed e = absurd filed
-  goes_take own (Leave user) node disk octets up filed e = absurd filed
+  goes_take own (Fetch user id from most holders) node disk octets up filed e = absurd filed
+  goes_take own (Leave user login manager) node disk octets up filed e = absurd filed
 
   begins_take : (own : ℕ) (call : NodeCall) (said : Said) → BeginsCall plan tells old own call said new → IsDoneWhole (Begin own call) said → Takes plan old (Begin own call) new
   begins_take own call said (FailsAtOnce node disk kind up of_kind fails is e) whole =
       (own, [], TakesNone refl, did_merge old new (with_struck old call) (struck_slots old call) own node disk up (refuse kind (mishaps_of_call plan old.seconds node call) (ids_drawn call) node disk) e [] (λ key. refl))
   begins_take own call said (Goes node disk octets up fails filed is e) whole = goes_take own call node disk octets up filed e
   begins_take own call said (FailsInIt node disk octets up filed is g) whole = absurd (not_faulted (Begin own call) said own is whole (λ n s. cc s) (λ n s. cc s))
-  begins_take own call said (Reads node disk kind found up one goes of_kind finds is e) whole =
-      (own, [], TakesNone refl, did_merge old new old refl own node disk up (begin_read kind found node disk) e [] (λ key. refl))
-  begins_take own call said (FailsReading node disk user id from most up one goes reads is e) whole = absurd (not_faulted (Begin own call) said own is whole (λ n s. cc s) (λ n s. cc s))
-  begins_take own call said (Leaves node disk user up one leaves is e) whole = same_takes plan old new (Begin own call) e
 
   asks_take : (number : Number) (said : Said) → AnswersAsk plan old number said new → Takes plan old (AskFor number) new
   asks_take number said (Waits node disk ticket up found got wanted pends is e) = same_takes plan old new (AskFor number) e
@@ -324,11 +344,16 @@ module _ (plan : Plan) (tells : Bool) (old new : World) where
   widens_take own to user id said (FailsWidening node disk up is g) whole = absurd (not_faulted (Widen own user id to) said own is whole (λ n s. cc s) (λ n s. cc s))
 
   pub step_merges : (step : Step) (said : Said) → DoesStep plan tells old step said new → IsDoneWhole step said → Takes plan old step new
-  step_merges (Begin node call) said d whole = begins_take node call said d whole
-  step_merges (AskFor ticket) said d whole = asks_take ticket said d
-  step_merges (GiveUp ticket) said d whole = (ticket.node, [], TakesNone refl, did_merge old new old refl ticket.node d.node d.disk d.up (end_ticket ticket.seq d.node d.disk) d.new_world [] (λ key. refl))
-  step_merges (Post letter keep) said d whole = posts_take letter keep said d whole
-  step_merges (DropLetter letter) said d whole = slots_take plan old new (DropLetter letter) (missed Dropped old.slots d.flies.letter) (ap (λ (w : World). w.slots) d.new_world) (missed_disks Dropped old.slots d.flies.letter)
+  step_merges (Begin node call) said (inl d) whole = begins_take node call said d whole
+  step_merges (Begin node call) said (inr d) whole = takes_none plan old new (Begin node call) (begins_seen Keeps keeps_stays keeps_then sees_keep plan node call said old new (λ n e a b f. fall_keeps n a b f) d)
+  step_merges (AskFor ticket) said (inl d) whole = asks_take ticket said d
+  step_merges (AskFor ticket) said (inr d) whole = takes_none plan old new (AskFor ticket) (answers_seen Keeps keeps_stays keeps_then sees_keep ticket said old new d)
+  step_merges (GiveUp ticket) said (inr d) whole = takes_none plan old new (GiveUp ticket) (gives_up_seen Keeps keeps_stays keeps_then sees_keep ticket said old new d)
+  step_merges (GiveUp ticket) said (inl d) whole = (ticket.node, [], TakesNone refl, did_merge old new old refl ticket.node d.node d.disk d.up (end_ticket ticket.seq d.node d.disk) d.new_world [] (λ key. refl))
+  step_merges (Post letter keep) said (inl d) whole = posts_take letter keep said d.0 whole
+  step_merges (Post letter keep) said (inr d) whole = takes_none plan old new (Post letter keep) (posts_seen Keeps keeps_stays keeps_then sees_keep letter keep said old new (λ n e a b f. fall_keeps n a b f) d)
+  step_merges (DropLetter letter) said (inl d) whole = slots_take plan old new (DropLetter letter) (missed Dropped old.slots d.0.flies.letter) (ap (λ (w : World). w.slots) d.0.new_world) (missed_disks Dropped old.slots d.0.flies.letter)
+  step_merges (DropLetter letter) said (inr d) whole = takes_none plan old new (DropLetter letter) (drops_seen Keeps keeps_stays keeps_then sees_keep letter said old new d)
   step_merges (PushTo from to) said d whole = pushes_take from to said d whole
   step_merges (Widen at user id to) said d whole = widens_take at to user id said d whole
   step_merges (Form node) said d whole = forms_take node said d whole

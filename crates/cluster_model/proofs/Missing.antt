@@ -127,7 +127,7 @@ lost_leads confirm May kind c letter front back is = led_on confirm May c (recor
     (note_leads confirm May kind c letter)
     (taken_leads confirm May (record c { slots = missed kind c.slots letter }) letter front back is (λ number m asked covers waits. absurd (missed_settled kind c.slots letter number m asked covers waits)))
 
-letters_last : (flying : List Flight) (flight : Flight) → letters_of (flying ++ flight ∷ []) ≡ letters_of flying ++ flight.letter ∷ []
+pub letters_last : (flying : List Flight) (flight : Flight) → letters_of (flying ++ flight ∷ []) ≡ letters_of flying ++ flight.letter ∷ []
 letters_last [] flight = refl
 letters_last (f ∷ flying) flight = ap (λ (l : List Letter). f.letter ∷ l) (letters_last flying flight)
 

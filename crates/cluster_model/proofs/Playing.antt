@@ -48,15 +48,15 @@ module _ (plan : Plan) (octets : List ℕ) (w : World) (node : Node) (disk : Lis
   module _ (number : Number) (ticket : Ticket) (up : IsUp w number.node node disk) (stands : ticket_at number.node node (Some number) ≡ Some ticket) where
     pub waits : (got wanted : ℕ) → node_name_fault plan (AskFor number) ≡ None → ask_of plan.confirm ticket ≡ Pending got wanted
         → Goes plan octets w (AskFor number) (Says (Asked (Pending got wanted))) w
-    waits got wanted named is = record { is = rw named (rw up (rw stands (rw up (rw stands (rw is refl))))) }
+    waits got wanted named is = record { is = rw named (rw up (rw up (rw stands (rw is refl)))) }
 
     pub ends : (answer : NodeAnswer) → node_name_fault plan (AskFor number) ≡ None → ask_of plan.confirm ticket ≡ Done answer
         → Goes plan octets w (AskFor number) (Says (Asked (Done answer))) (record w { slots = with_slot w.slots number.node (slot_up (end_ticket number.seq node disk).node disk); book = w.book ++ entries_with answer ticket })
-    ends answer named is = record { is = rw named (rw up (rw stands (rw up (rw stands (rw is refl))))) }
+    ends answer named is = record { is = rw named (rw up (rw up (rw stands (rw is refl)))) }
 
     pub gives_up : node_name_fault plan (GiveUp number) ≡ None → (nat_le letters_end w.sent ≡ false)
         → Goes plan octets w (GiveUp number) (Says (Finished)) (after w number.node (end_ticket number.seq node disk))
-    gives_up named few = record { is = rw named (rw up (rw stands (rw few (rw up refl)))) }
+    gives_up named few = record { is = rw named (rw up (rw few (rw up (rw stands refl)))) }
 
   module _ (number : ℕ) (keep : Bool) (letter : Letter) (fits : step_fault plan (Post number keep) w ≡ None) (here : letter_at number w.flying ≡ Some letter) (up : IsUp w letter.to node disk) (fresh : is_stale letter node.installed ≡ false) where
     pub hears_told : (ticket : Ticket) → ticket_at letter.to node letter.ticket ≡ Some ticket → answers_ticket letter.body ≡ true

@@ -24,7 +24,7 @@ use Rattle.cluster_model.specs.Steps.{Step, Said, StepOutcome}
 use Rattle.cluster_model.specs.Steps.Step.{Begin, AskFor, GiveUp, Post, DropLetter, PushTo, Widen, Form, Crash, Start, Lose, Tick}
 use Rattle.cluster_model.specs.Steps.StepOutcome.{Says, Refused, NoMemory}
 use Rattle.cluster_model.specs.Makes.{IsUp, NodeGoesDown, BeginsCall, AnswersAsk, Pushes, Widens, StartsUp, NodeFalls, LosesNode, DoesStep, RunsShort, MadeStep, MakesStep, MakesAll}
-use Rattle.cluster_model.specs.Makes.BeginsCall.{FailsAtOnce, Goes, FailsInIt, Reads, FailsReading, Leaves}
+use Rattle.cluster_model.specs.Makes.BeginsCall.{FailsAtOnce, Goes, FailsInIt}
 use Rattle.cluster_model.specs.Makes.AnswersAsk.{Waits, Ends}
 use Rattle.cluster_model.specs.Makes.Pushes.{Sends, FailsPushing}
 use Rattle.cluster_model.specs.Makes.Widens.{Adds, FailsWidening}
@@ -42,6 +42,7 @@ use Rattle.cluster_model.proofs.Stepping.{slot_again, unheard_leads, quiet_leads
 use Rattle.cluster_model.proofs.Forming.{cut_forming, forms_lead}
 use Rattle.cluster_model.proofs.Asking.{ends_lead}
 use Rattle.cluster_model.proofs.Calling.{begins_lead, fails_lead}
+use Rattle.cluster_model.proofs.Reading.{SeesOne, LeadsOn, begins_seen, answers_seen, gives_up_seen, posts_seen, drops_seen, sees_lead, fall_leads, goes_stays, goes_then}
 use Rattle.cluster_model.proofs.Posting.{posts_lead, failing_leads}
 
 in_plan : (nodes confirm : ℕ) (moves : List Move) (c : Cluster) → MayMoves confirm moves c → InPlan nodes c.slots → InPlan nodes (after_moves moves c).slots
@@ -140,21 +141,36 @@ module _ (confirm : ℕ) (May : Id → List ℕ → Type 0) (old : World) (n : �
       l.pending_is)
 
 module _ (plan : Plan) (tells : Bool) (old new : World) (p : InPlan plan.nodes old.slots) (s : Sound plan.confirm (cluster_of old)) where
+  abbrev Quietly : World → World → Type 0
+  Quietly = LeadsOn plan.confirm (λ id o. ⊥)
+
+  stays : (w : World) → Quietly w w
+  stays = goes_stays plan.confirm (λ id o. ⊥)
+
+  then : (a b c : World) → Quietly a b → Quietly b c → Quietly a c
+  then = goes_then plan.confirm (λ id o. ⊥)
+
+  each : (a b : World) → SeesOne a b → Quietly a b
+  each = sees_lead plan.confirm (λ id o. ⊥)
+
   does_lead : (step : Step) (said : Said) → DoesStep plan tells old step said new → Leads plan.confirm (MayBring old step) (cluster_of old) (cluster_of new)
-  does_lead (Begin node call) said d = begins_lead plan tells old node (numbered d) call said new d
+  does_lead (Begin node call) said (inr d) = begins_seen (LeadsOn plan.confirm (MayBring old (Begin node call))) (goes_stays plan.confirm (MayBring old (Begin node call))) (goes_then plan.confirm (MayBring old (Begin node call)))
+      (sees_lead plan.confirm (MayBring old (Begin node call))) plan node call said old new (λ n e a b f. fall_leads plan.confirm (MayBring old (Begin node call)) n a b f) d
+  does_lead (Begin node call) said (inl d) = begins_lead plan tells old node (numbered d) call said new d
     where
       numbered : BeginsCall plan tells old node call said new → IsOfPlan node plan.nodes
       numbered (FailsAtOnce own disk kind up of_kind fails is e) = p node (slot_up own disk) up
       numbered (Goes own disk octets up fails filed is e) = p node (slot_up own disk) up
       numbered (FailsInIt own disk octets up filed is g) = p node (slot_up own disk) up
-      numbered (Reads own disk kind what up one goes of_kind finds is e) = p node (slot_up own disk) up
-      numbered (FailsReading own disk user id from most up one goes reads is e) = p node (slot_up own disk) up
-      numbered (Leaves own disk user up one leaves is e) = p node (slot_up own disk) up
-  does_lead (AskFor ticket) said d = answers_lead plan.confirm (λ id o. ⊥) old plan refl ticket said new d
-  does_lead (GiveUp ticket) said d = subst (λ (w : World). Leads plan.confirm (λ id o. ⊥) (cluster_of old) (cluster_of w)) (sym d.new_world)
+  does_lead (AskFor ticket) said (inr d) = answers_seen Quietly stays then each ticket said old new d
+  does_lead (AskFor ticket) said (inl d) = answers_lead plan.confirm (λ id o. ⊥) old plan refl ticket said new d
+  does_lead (GiveUp ticket) said (inr d) = gives_up_seen Quietly stays then each ticket said old new d
+  does_lead (GiveUp ticket) said (inl d) = subst (λ (w : World). Leads plan.confirm (λ id o. ⊥) (cluster_of old) (cluster_of w)) (sym d.new_world)
       (unheard_leads plan.confirm (λ id o. ⊥) old ticket.node d.node d.disk (end_ticket ticket.seq d.node d.disk) None [] d.up (λ ready. end_acts ticket.node d.node d.disk ready ticket.seq) (λ user id m. absurd m) (λ content e. absurd (cc e)))
-  does_lead (Post letter keep) said d = posts_lead plan (λ id o. ⊥) old new p s letter keep said d
-  does_lead (DropLetter letter) said d = subst (λ (w : World). Leads plan.confirm (λ id o. ⊥) (cluster_of old) (cluster_of w)) (sym d.new_world) (letter_lost plan.confirm (λ id o. ⊥) old Dropped letter d.flies false)
+  does_lead (Post letter keep) said (inr d) = posts_seen Quietly stays then each letter keep said old new (λ n e a b f. fall_leads plan.confirm (λ id o. ⊥) n a b f) d
+  does_lead (Post letter keep) said (inl d) = posts_lead plan (λ id o. ⊥) old new p s letter keep said d.0
+  does_lead (DropLetter letter) said (inr d) = drops_seen Quietly stays then each letter said old new d
+  does_lead (DropLetter letter) said (inl d) = subst (λ (w : World). Leads plan.confirm (λ id o. ⊥) (cluster_of old) (cluster_of w)) (sym d.0.new_world) (letter_lost plan.confirm (λ id o. ⊥) old Dropped letter d.0.flies false)
   does_lead (PushTo from to) said d = pushes_lead plan.confirm (λ id o. ⊥) old from to said new d
   does_lead (Widen at user id to) said d = widens_lead plan.confirm (λ id o. ⊥) old at to (Message user id) said new d
   does_lead (Form node) said d = forms_lead plan.confirm (λ id o. ⊥) old node said new d

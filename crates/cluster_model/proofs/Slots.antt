@@ -1,5 +1,6 @@
 -- Reads of slots after one of them is written.
-use Rattle.std.proofs.Common.{◌≡◌, ◌⊎◌, inl, inr, ⊎_elim, ℕ, zero, suc, List, Some, ap}
+use Rattle.std.proofs.Common.{◌≡◌, ◌⊎◌, inl, inr, ⊎_elim, ℕ, zero, suc, List, [], ◌∷◌, Some, ap}
+use Rattle.std.specs.Prelude.{slice_get, slice_set}
 use Rattle.object_model.proofs.Lists.{get_same, get_after, get_before}
 use Rattle.cluster_model.specs.Cluster.{Slot, slot_at, with_slot}
 
@@ -20,3 +21,16 @@ pub read_before : (slots : List Slot) (n m : ℕ) (x y z : Slot) → slot_at slo
 read_before slots zero m x y z h r = cc
 read_before slots (suc n) zero x y z h r = cc
 read_before slots (suc n) (suc m) x y z h r = ⊎_elim (λ p. inl (ap suc p.0, p.1, p.2)) (λ q. inr q) (get_before slots n m x y z h r)
+
+-- a slot that is written with what it was
+set_same : (xs : List Slot) (k : ℕ) (x : Slot) → slice_get xs k ≡ Some x → slice_set xs k x ≡ xs
+set_same [] k x h = cc
+set_same (y ∷ xs) zero x h = ap (λ (z : Slot). z ∷ xs) (back h)
+  where
+    back : Some y ≡ Some x → x ≡ y
+    back e = cc
+set_same (y ∷ xs) (suc k) x h = ap (λ (l : List Slot). y ∷ l) (set_same xs k x h)
+
+pub written_same : (slots : List Slot) (n : ℕ) (x : Slot) → slot_at slots n ≡ Some x → with_slot slots n x ≡ slots
+written_same slots zero x h = cc
+written_same slots (suc n) x h = set_same slots n x h

@@ -11,12 +11,11 @@ use Rattle.object_model.specs.Letters.{Number, Letter}
 use Rattle.object_model.specs.Mishaps.{Mishaps}
 use Rattle.object_model.specs.Sets.{has, count_below, count_in}
 use Rattle.object_model.proofs.SetLaws.{has_or}
-use Rattle.cluster_model.specs.Reads.{Found}
 use Rattle.cluster_model.specs.Cluster.{Want, Ticket, Node, Cluster, slot_at}
 use Rattle.cluster_model.specs.Parts.{Sound}
 use Rattle.cluster_model.specs.Deeds.{slot_up}
 use Rattle.cluster_model.specs.Rules.{ticket_at}
-use Rattle.cluster_model.specs.Progress.{Ask, is_confirmed, can_be_confirmed, answer_once_confirmed, pending_of_call, ask_of, ask_of_wants, ask_of_found}
+use Rattle.cluster_model.specs.Progress.{Ask, is_confirmed, can_be_confirmed, answer_once_confirmed, pending_of_call, ask_of, ask_of_wants}
 use Rattle.cluster_model.specs.Progress.Ask.{Pending, Done}
 use Rattle.cluster_model.specs.Progress.NodeAnswer.{Failed}
 
@@ -86,11 +85,10 @@ found_here own node number ticket e = by (nat_eq number.node own) (nat_eq number
 pub pending_letter : (confirm : ℕ) (w : Cluster) → Sound confirm w → (number : Number) (node : Node) (disk : List Record) (ticket : Ticket) → slot_at w.slots number.node ≡ Some (slot_up node disk)
     → ticket_at number.node node (Some number) ≡ Some ticket → (got wanted : ℕ) → ask_of confirm ticket ≡ Pending got wanted
     → (letter : Letter) × Among letter w.flying × (letter.ticket ≡ Some number)
-pending_letter confirm w s number node disk ticket here found got wanted e = by ticket.found refl e
+pending_letter confirm w s number node disk ticket here found got wanted e = by e
   where
-    by : (read : Option Found) → ticket.found ≡ read → ask_of_found confirm ticket read ≡ Pending got wanted → (letter : Letter) × Among letter w.flying × (letter.ticket ≡ Some number)
-    by (Some what) is g = absurd (cc g)
-    by None is g =
+    by : ask_of_wants confirm ticket.mishaps ticket.wants ≡ Pending got wanted → (letter : Letter) × Among letter w.flying × (letter.ticket ≡ Some number)
+    by g =
         let p = pending_wants confirm ticket.mishaps ticket.wants got wanted g in
         let (want, inside, there) = some_waits confirm ticket.wants p.0 p.1 in
         let m = there.0 in

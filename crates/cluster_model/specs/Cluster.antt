@@ -9,7 +9,6 @@ use Rattle.object_model.specs.Sets.{with_node}
 use Rattle.object_model.specs.UpdateLog.{Log}
 use Rattle.object_model.specs.Mishaps.{Mishaps}
 use Rattle.object_model.specs.Letters.{Member, Membership, Letter}
-use Rattle.cluster_model.specs.Reads.{Found}
 
 -- A message that was filed: its id, its users, the seconds at which it came, and the number and SHA-256 of its octets.
 pub record NodeFiling : Type 0 where
@@ -38,12 +37,11 @@ pub data CallKind : Type 0 where
   Fetching : CallKind
   Striking : CallKind
 
--- A Deliver has one want, and a Strike one for each of its items. A call that failed at once has none. Nor has one that reads, which has what it found as it began.
+-- A Deliver has one want, and a Strike one for each of its items. A call that failed at once has none. One that reads has no ticket here, unless it failed at once.
 pub record Ticket : Type 0 where
   pub kind : CallKind
   pub wants : List Want
   pub mishaps : Mishaps
-  pub found : Option Found
 
 abbrev pub Tickets : Type 0
 Tickets = map.FinMap nat_cmp Ticket

@@ -1,40 +1,40 @@
 -- What each step makes of a world, by what it answers.
-use Rattle.std.specs.Prelude.{◌≡◌, ◌≢◌, ◌⊎◌, ◌≤◌, ℕ, ◌+◌, Bool, true, false, List, [], ◌∷◌, ◌++◌, length, map, Option, Some, None}
+use Rattle.std.specs.Prelude.{◌≡◌, ◌≢◌, ◌⊎◌, ◌<◌, ◌≤◌, ℕ, ◌+◌, Bool, true, false, List, [], ◌∷◌, ◌++◌, length, map, Option, Some, None}
 use Rattle.mail_model.specs.Identity.{Id, EpochId, Key}
 use Rattle.mail_model.specs.Identity.Key.{Message}
 use Rattle.mail_model.specs.Lines.{ends_in_crlf}
-use Rattle.mail_model.specs.Plan.{Plan, proves}
+use Rattle.mail_model.specs.Plan.{Plan, Proof}
 use Rattle.mail_model.specs.Record.{Record}
 use Rattle.mail_model.specs.Mail.{IsStored}
 use Rattle.mail_model.specs.Book.{BookEntry}
 use Rattle.mail_model.specs.Book.BookEntry.{Struck as StruckEntry, WentDown, CameUp, WasLost}
-use Rattle.object_model.specs.Sets.{nodes_in}
+use Rattle.object_model.specs.Sets.{has, nodes_in}
 use Rattle.object_model.specs.Said.{said as said_of}
-use Rattle.object_model.specs.Letters.{Number}
-use Rattle.object_model.specs.Mishaps.{MishapKind}
-use Rattle.object_model.specs.Mishaps.MishapKind.{Dropped, Stale as StaleKind, Down as DownKind, Disk}
-use Rattle.cluster_model.specs.Reads.{ListedCopy, Found, IsListing, IsPart, is_here_held, has_copy}
-use Rattle.cluster_model.specs.Reads.Found.{Listed, WrongSecret, PartOf, NotThere}
+use Rattle.object_model.specs.Letters.{Number, Body, Letter, is_read_body}
+use Rattle.object_model.specs.Letters.Body.{FetchAsk}
+use Rattle.object_model.specs.Mishaps.{MishapKind, no_mishaps, counted, mishaps_of}
+use Rattle.object_model.specs.Mishaps.MishapKind.{FewMembers, Dropped, Stale as StaleKind, Down as DownKind, Disk}
 use Rattle.cluster_model.specs.Cluster.{CallKind, Ticket, Node, Life, Slot, slot_at, with_slot, pending_of, members_of}
 use Rattle.cluster_model.specs.Cluster.CallKind.{Delivering, LoggingIn, Fetching, Striking}
 use Rattle.cluster_model.specs.Cluster.Life.{Down, Lost}
 use Rattle.cluster_model.specs.Claims.{boot_of}
-use Rattle.cluster_model.specs.Rules.{Reaction, idle, ticket_at, push, can_widen, widen, begin_deliver, begin_strike, begin_read, end_ticket, refuse, new_number}
+use Rattle.cluster_model.specs.Rules.{Reaction, idle, ticket_at, push, can_widen, widen, begin_deliver, begin_strike, end_ticket, refuse, new_number}
 use Rattle.cluster_model.specs.Targets.{deliver_targets, strike_asks}
 use Rattle.cluster_model.specs.Starts.{StartsNode, StopsStart}
 use Rattle.cluster_model.specs.Forms.{IsMapsBody, promise_records, FormsEpoch}
-use Rattle.cluster_model.specs.Thrown.{is_stale, thrown_by, with_stamps}
+use Rattle.cluster_model.specs.Thrown.{is_stale, answers_ticket, thrown_by, with_stamps}
 use Rattle.cluster_model.specs.Thrown.Why.{WhileDown, Stale, Late}
 use Rattle.cluster_model.specs.Progress.{NodeAnswer, ask_of, entries_with}
 use Rattle.cluster_model.specs.Progress.Ask.{Pending, Done}
+use Rattle.cluster_model.specs.Progress.NodeAnswer.{Read, Failed}
 use Rattle.cluster_model.specs.Deeds.{slot_up, hear}
 use Rattle.cluster_model.specs.Room.{has_room, keys_pushed}
-use Rattle.cluster_model.specs.World.{World, missed, put, Flies, flies_on}
-use Rattle.cluster_model.specs.Steps.{Struck, NodeCall, Step, Said, StepOutcome, mishaps_of_call, fails_at_once, ids_drawn, greatest_boot, step_fault}
+use Rattle.cluster_model.specs.World.{World, missed, put, with_letter, Flies, flies_on}
+use Rattle.cluster_model.specs.Steps.{Struck, NodeCall, Step, Said, StepFault, StepOutcome, actor_of, actor_fault, stands_at, asked_of, mishaps_of_call, fails_at_once, ids_drawn, greatest_boot, node_name_fault, first_fault, step_fault}
 use Rattle.cluster_model.specs.Steps.NodeCall.{Deliver, Login, Fetch, Strike, Leave}
 use Rattle.cluster_model.specs.Steps.Step.{Begin, AskFor, GiveUp, Post, DropLetter, PushTo, Widen, Form, Crash, Start, Lose, Tick}
 use Rattle.cluster_model.specs.Steps.Said.{Begun, Noted, Asked, Heard, Thrown, Sent, Widened, Grouped, Concluded, NodeUp, Finished, Faulted}
-use Rattle.cluster_model.specs.Steps.StepFault.{Worn}
+use Rattle.cluster_model.specs.Steps.StepFault.{NoSuchTicket, Worn}
 use Rattle.cluster_model.specs.Steps.StepOutcome.{Says, Refused, NoMemory}
 
 -- node `own` is up, with this soft state and this disk
@@ -57,9 +57,9 @@ with_struck w call = w
 abbrev pub kind_of_call : NodeCall → Option CallKind
 kind_of_call (Deliver mail) = Some Delivering
 kind_of_call (Login user proof) = Some LoggingIn
-kind_of_call (Fetch user id from most) = Some Fetching
+kind_of_call (Fetch user id from most holders) = Some Fetching
 kind_of_call (Strike user items) = Some Striking
-kind_of_call (Leave user) = None
+kind_of_call (Leave user login manager) = None
 
 -- the nodes that a delivery asks, and of each item of a deletion those that it asks
 abbrev pub targets_for : Plan → ℕ → Node → ℕ
@@ -81,19 +81,6 @@ begun_by plan w own node disk (Deliver mail) octets = begin_deliver own plan.nod
 begun_by plan w own node disk (Strike user items) octets = begin_strike own plan.nodes node disk user (asked_for plan own node items)
 begun_by plan w own node disk call octets = idle node disk
 
--- What a Fetch finds: a part of the message where the user's copy is here with its octets, and else that it is not there.
-pub data FetchFinds (tells : Bool) (user : List ℕ) (id : Id) (from most : ℕ) (disk : List Record) (found : Found) : Type 0 where
-  HasPart : (octets : List ℕ) (whole : ℕ) → is_here_held (said_of (Message user id) disk) ≡ true → IsPart tells id from most disk octets whole → found ≡ PartOf octets whole
-      → FetchFinds tells user id from most disk found
-  HasNone : has_copy user id disk ≡ false → found ≡ NotThere → FetchFinds tells user id from most disk found
-
--- What a call that reads finds on the disk of its node. A Login whose proof is not right by the user's secret finds that alone.
-abbrev pub IsFound : Plan → Bool → List Record → NodeCall → Found → Type 0
-IsFound plan tells disk (Login user proof) found = ((proves plan user proof ≡ false) × (found ≡ WrongSecret))
-    ⊎ ((proves plan user proof ≡ true) × ((items : List ListedCopy) × IsListing user disk items × (found ≡ Listed items)))
-IsFound plan tells disk (Fetch user id from most) found = FetchFinds tells user id from most disk found
-IsFound plan tells disk call found = ⊥
-
 -- The disk of a node fails in its work: the first of its records stand, and what is pending may.
 pub record IsWorkCut (disk whole : List Record) (front pending : List Record) : Type 0 where
   pub missing : List Record
@@ -111,8 +98,7 @@ pub record NodeGoesDown (w : World) (n : ℕ) (disk whole : List Record) (new : 
   pub cut : IsWorkCut disk whole front pending
   pub is : new ≡ cut_world w n disk front pending
 
--- A call begins. The book has at once what a Strike is to delete, also where the disk then fails. Whether the disk tells its octets is `tells`. The calls that read, and a Leave,
--- have a rule in a plan of one node alone: in a plan of several they are never begun.
+-- A call begins: one for messages, or one that fails at once. The book has at once what a Strike is to delete, also where the disk then fails.
 pub data BeginsCall (plan : Plan) (tells : Bool) (old : World) (own : ℕ) (call : NodeCall) (said : Said) (new : World) : Type 0 where
   -- it fails at once: its ticket has its mishaps
   FailsAtOnce : (node : Node) (disk : List Record) (kind : CallKind) → IsUp old own node disk → kind_of_call call ≡ Some kind → fails_at_once plan old.seconds node call ≡ true
@@ -124,15 +110,6 @@ pub data BeginsCall (plan : Plan) (tells : Bool) (old : World) (own : ℕ) (call
       → BeginsCall plan tells old own call said new
   FailsInIt : (node : Node) (disk : List Record) (octets : List ℕ) → IsUp old own node disk → IsFiled old own node call octets
       → said ≡ Faulted own → NodeGoesDown (with_struck old call) own disk (begun_by plan old own node disk call octets).disk new
-      → BeginsCall plan tells old own call said new
-  Reads : (node : Node) (disk : List Record) (kind : CallKind) (found : Found) → IsUp old own node disk → plan.nodes ≡ 1
-      → fails_at_once plan old.seconds node call ≡ false → kind_of_call call ≡ Some kind → IsFound plan tells disk call found → said ≡ Begun (new_number own node) → new ≡ after old own (begin_read kind found node disk)
-      → BeginsCall plan tells old own call said new
-  -- a Fetch reads octets, and its disk fails in it
-  FailsReading : (node : Node) (disk : List Record) (user : List ℕ) (id : Id) (from most : ℕ) → IsUp old own node disk → plan.nodes ≡ 1
-      → fails_at_once plan old.seconds node call ≡ false → call ≡ Fetch user id from most → said ≡ Faulted own → new ≡ cut_world old own disk [] []
-      → BeginsCall plan tells old own call said new
-  Leaves : (node : Node) (disk : List Record) (user : List ℕ) → IsUp old own node disk → plan.nodes ≡ 1 → call ≡ Leave user → said ≡ Noted → new ≡ old
       → BeginsCall plan tells old own call said new
 
 -- A ticket is asked. While it is pending nothing changes. A ticket that is done ends, and the book has what was confirmed.
@@ -149,7 +126,9 @@ pub data AnswersAsk (plan : Plan) (old : World) (number : Number) (said : Said) 
 pub record IsGivenUp (old : World) (number : Number) (said : Said) (new : World) : Type 0 where
   pub node : Node
   pub disk : List Record
+  pub ticket : Ticket
   pub up : IsUp old number.node node disk
+  pub stands : ticket_at number.node node (Some number) ≡ Some ticket
   pub said_is : said ≡ Finished
   pub new_world : new ≡ after old number.node (end_ticket number.seq node disk)
 
@@ -257,13 +236,124 @@ pub record LosesNode (old : World) (n : ℕ) (said : Said) (new : World) : Type 
   pub said_is : said ≡ Finished
   pub new_world : new ≡ record old { slots = with_slot old.slots n (record { life = Lost; disk = slot.disk ++ kept }); book = old.book ++ WasLost n ∷ [] }
 
+-- A letter of a call that reads, which a node that is up sends to another; there is room for it.
+pub record IsReadLetter (w : World) (letter : Letter) : Type 0 where
+  pub body : is_read_body letter.body ≡ true
+  pub other : letter.to ≢ letter.from
+  pub node : Node
+  pub disk : List Record
+  pub up : IsUp w letter.from node disk
+  pub room : has_room w.flying letter ≡ true
+
+-- such letters are put in flight one by one, under the next numbers
+abbrev pub SendsReading : World → List Letter → World → Type 0
+SendsReading old [] new = new ≡ old
+SendsReading old (letter ∷ letters) new = IsReadLetter old letter × SendsReading (with_letter old letter) letters new
+
+-- Calls that read go on: what they send is in flight. What nodes keep of such calls messages do not see, and no ticket of theirs notes what befalls such letters.
+pub record GoesOnReading (old new : World) : Type 0 where
+  pub letters : List Letter
+  pub sends : SendsReading old letters new
+
+abbrev pub DrawsTicket : NodeCall → Type 0
+DrawsTicket (Login user proof) = Unit {0}
+DrawsTicket (Fetch user id from most holders) = Unit {0}
+DrawsTicket call = ⊥
+
+-- A call that reads begins: a node draws the number of a ticket, which messages do not have. A Leave draws none.
+pub data BeginsRead (plan : Plan) (old : World) (own : ℕ) (call : NodeCall) (said : Said) (new : World) : Type 0 where
+  -- nobody manages the user
+  HasNoManager : (node : Node) (disk : List Record) (user : List ℕ) (proof : Proof) → IsUp old own node disk → call ≡ Login user proof → fails_at_once plan old.seconds node call ≡ false
+      → said ≡ Begun (new_number own node) → new ≡ after old own (refuse LoggingIn (counted FewMembers no_mishaps) 0 node disk)
+      → BeginsRead plan old own call said new
+  Draws : (node : Node) (disk : List Record) → IsUp old own node disk → DrawsTicket call → fails_at_once plan old.seconds node call ≡ false → said ≡ Begun (new_number own node)
+      → GoesOnReading (record old { slots = with_slot old.slots own (slot_up (record node { calls = node.calls + 1 }) disk) }) new
+      → BeginsRead plan old own call said new
+  -- the own node is a holder, and its disk fails as it is read
+  FailsReading : (node : Node) (disk : List Record) (user : List ℕ) (id : Id) (from most holders : ℕ) → IsUp old own node disk → call ≡ Fetch user id from most holders
+      → has (asked_of node holders) own ≡ true → said ≡ Faulted own → new ≡ cut_world old own disk [] []
+      → BeginsRead plan old own call said new
+  Leaves : (node : Node) (disk : List Record) (user : List ℕ) (login : Number) (manager : ℕ) → IsUp old own node disk → call ≡ Leave user login manager → said ≡ Noted → GoesOnReading old new
+      → BeginsRead plan old own call said new
+
+-- a number of the node's boot, of which messages have no ticket
+pub record IsForReads (w : World) (number : Number) : Type 0 where
+  pub node : Node
+  pub disk : List Record
+  pub up : IsUp w number.node node disk
+  pub boot : number.boot ≡ node.boot
+  pub none : ticket_at number.node node (Some number) ≡ None
+
+-- what is said of a ticket that is none of messages
+abbrev pub IsSaidOfReads : Said → Type 0
+IsSaidOfReads (Asked (Pending got wanted)) = Unit {0}
+IsSaidOfReads (Asked (Done (Read found))) = Unit {0}
+IsSaidOfReads (Asked (Done (Failed mishaps))) = 0 < mishaps_of mishaps
+IsSaidOfReads said = ⊥
+
+-- such a ticket is asked, and may end by that
+pub record AnswersRead (old : World) (number : Number) (said : Said) (new : World) : Type 0 where
+  pub of : IsForReads old number
+  pub said_is : IsSaidOfReads said
+  pub new_world : new ≡ old
+
+-- or it is given up
+pub record GivesUpRead (old : World) (number : Number) (said : Said) (new : World) : Type 0 where
+  pub of : IsForReads old number
+  pub said_is : said ≡ Finished
+  pub goes_on : GoesOnReading old new
+
+abbrev pub IsFetchAsk : Body → Type 0
+IsFetchAsk (FetchAsk user id from most) = Unit {0}
+IsFetchAsk body = ⊥
+
+-- A letter of a call that reads is handed to its receiver. Where it is lost, letters may be sent for it.
+pub data PostsRead (old : World) (number : ℕ) (keep : Bool) (said : Said) (new : World) : Type 0 where
+  NobodyUp : (flies : Flies old number) → is_read_body flies.letter.body ≡ true → ((node : Node) (disk : List Record) → IsUp old flies.letter.to node disk → ⊥)
+      → said ≡ Thrown WhileDown → GoesOnReading (record old { flying = flies_on old number flies keep }) new
+      → PostsRead old number keep said new
+  OfOtherEpoch : (flies : Flies old number) (node : Node) (disk : List Record) → is_read_body flies.letter.body ≡ true → IsUp old flies.letter.to node disk
+      → is_stale flies.letter node.installed ≡ true → said ≡ Thrown Stale → GoesOnReading (record old { flying = flies_on old number flies keep }) new
+      → PostsRead old number keep said new
+  -- it answers a ticket that stands no more
+  TooLate : (flies : Flies old number) (node : Node) (disk : List Record) → is_read_body flies.letter.body ≡ true → IsUp old flies.letter.to node disk
+      → is_stale flies.letter node.installed ≡ false → answers_ticket flies.letter.body ≡ true → said ≡ Thrown Late → new ≡ record old { flying = flies_on old number flies keep }
+      → PostsRead old number keep said new
+  -- its receiver learns the stamps of it
+  IsHeard : (flies : Flies old number) (node : Node) (disk : List Record) → is_read_body flies.letter.body ≡ true → IsUp old flies.letter.to node disk
+      → is_stale flies.letter node.installed ≡ false → said ≡ Heard
+      → GoesOnReading (record old { slots = with_slot old.slots flies.letter.to (slot_up (with_stamps flies.letter.body node) disk); flying = flies_on old number flies keep }) new
+      → PostsRead old number keep said new
+  -- a holder's disk fails as it is read
+  FailsForReads : (flies : Flies old number) (node : Node) (disk : List Record) → IsFetchAsk flies.letter.body → IsUp old flies.letter.to node disk
+      → is_stale flies.letter node.installed ≡ false → said ≡ Faulted flies.letter.to
+      → GoesOnReading (record (cut_world old flies.letter.to disk [] []) { flying = flies_on old number flies keep }) new
+      → PostsRead old number keep said new
+
+-- such a letter is dropped
+pub record DropsRead (old : World) (number : ℕ) (said : Said) (new : World) : Type 0 where
+  pub flies : Flies old number
+  pub read : is_read_body flies.letter.body ≡ true
+  pub said_is : said ≡ Finished
+  pub goes_on : GoesOnReading (record old { flying = flies_on old number flies false }) new
+
+-- the letter that was posted
+abbrev pub posted_letter : {plan : Plan} {old : World} {number : ℕ} {keep : Bool} {said : Said} {new : World} → Posts plan old number keep said new → Letter
+posted_letter (Posts.NobodyUp flies nobody is e) = flies.letter
+posted_letter (Posts.OfOtherEpoch flies node disk up thrown is e) = flies.letter
+posted_letter (Posts.TooLate flies node disk up thrown is e) = flies.letter
+posted_letter (Posts.IsHeard flies node disk up thrown is e) = flies.letter
+posted_letter (Posts.FailsHearing flies node disk up thrown is down g e) = flies.letter
+posted_letter (Posts.IsForMaps flies node disk up of fresh is did forms e) = flies.letter
+posted_letter (Posts.FailsForMaps flies node disk promise up of fresh is down g e) = flies.letter
+
 -- what each step does that is not refused, by what it says
 abbrev pub DoesStep : Plan → Bool → World → Step → Said → World → Type 0
-DoesStep plan tells old (Begin node call) said new = BeginsCall plan tells old node call said new
-DoesStep plan tells old (AskFor ticket) said new = AnswersAsk plan old ticket said new
-DoesStep plan tells old (GiveUp ticket) said new = IsGivenUp old ticket said new
-DoesStep plan tells old (Post letter keep) said new = Posts plan old letter keep said new
-DoesStep plan tells old (DropLetter letter) said new = Drops old letter said new
+DoesStep plan tells old (Begin node call) said new = BeginsCall plan tells old node call said new ⊎ BeginsRead plan old node call said new
+DoesStep plan tells old (AskFor ticket) said new = AnswersAsk plan old ticket said new ⊎ AnswersRead old ticket said new
+DoesStep plan tells old (GiveUp ticket) said new = IsGivenUp old ticket said new ⊎ GivesUpRead old ticket said new
+DoesStep plan tells old (Post letter keep) said new = ((posts : Posts plan old letter keep said new) × (is_read_body (posted_letter posts).body ≡ false)) ⊎ PostsRead old letter keep said new
+DoesStep plan tells old (DropLetter letter) said new = ((drops : Drops old letter said new) × (is_read_body drops.flies.letter.body ≡ false)) ⊎ DropsRead old letter said new
 DoesStep plan tells old (PushTo from to) said new = Pushes old from to said new
 DoesStep plan tells old (Widen at user id to) said new = Widens old at to (Message user id) said new
 DoesStep plan tells old (Form node) said new = FormsAt old node said new
@@ -309,16 +399,22 @@ abbrev pub StartIsWorn : World → Step → Type 0
 StartIsWorn old (Start n) = IsLastBoot old n
 StartIsWorn old step = ⊥
 
--- A Form is refused for the sake of membership and maps, too, which are not seen here.
-abbrev pub IsUnseen : Step → Type 0
-IsUnseen (Form node) = Unit {0}
-IsUnseen step = ⊥
+-- a step has no fault but that no ticket of messages stands under this number
+abbrev pub HasNoTicket : Plan → World → Step → Number → Type 0
+HasNoTicket plan old step number = (first_fault (node_name_fault plan step ∷ actor_fault step old.slots (actor_of step) ∷ []) ≡ None) × (stands_at number (slot_at old.slots number.node) ≡ false)
+
+-- A Form is refused for the sake of membership and maps, too, and an Ask and a GiveUp where no call that reads has such a ticket. These are not seen here.
+abbrev pub IsUnseen : Plan → World → Step → StepFault → Type 0
+IsUnseen plan old (Form node) fault = Unit {0}
+IsUnseen plan old (AskFor number) fault = (fault ≡ NoSuchTicket) × HasNoTicket plan old (AskFor number) number
+IsUnseen plan old (GiveUp number) fault = (fault ≡ NoSuchTicket) × HasNoTicket plan old (GiveUp number) number
+IsUnseen plan old step fault = ⊥
 
 -- A step is refused where it has a fault, and where a start is worn, and then changes nothing. Out of memory has no cause that is told.
 abbrev pub MakesStep : Plan → Bool → World → Step → StepOutcome → World → Type 0
 MakesStep plan tells old step (Says said) new = (step_fault plan step old ≡ None) × DoesStep plan tells old step said new
 MakesStep plan tells old step (Refused fault) new =
-    (((step_fault plan step old ≡ Some fault) ⊎ ((step_fault plan step old ≡ None) × (fault ≡ Worn) × StartIsWorn old step)) ⊎ IsUnseen step) × (new ≡ old)
+    (((step_fault plan step old ≡ Some fault) ⊎ ((step_fault plan step old ≡ None) × (fault ≡ Worn) × StartIsWorn old step)) ⊎ IsUnseen plan old step fault) × (new ≡ old)
 MakesStep plan tells old step (NoMemory None) new = new ≡ old
 MakesStep plan tells old step (NoMemory (Some n)) new = RunsShort plan old step n new
 

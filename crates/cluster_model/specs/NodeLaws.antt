@@ -7,16 +7,15 @@ use Rattle.object_model.specs.Sets.{has}
 use Rattle.object_model.specs.Lists.{Among}
 use Rattle.object_model.specs.States.{join_with}
 use Rattle.object_model.specs.Said.{said}
-use Rattle.object_model.specs.Letters.{Letter}
+use Rattle.object_model.specs.Letters.{Letter, is_read_body}
 use Rattle.object_model.specs.Mishaps.{MishapKind, Mishaps}
-use Rattle.cluster_model.specs.Reads.{Found}
 use Rattle.cluster_model.specs.Cluster.{CallKind, Node, Life, Slot}
 use Rattle.cluster_model.specs.Cluster.Life.{Down, Lost}
 use Rattle.cluster_model.specs.Store.{Store, Update, take_one, take_all}
 use Rattle.cluster_model.specs.Moves.{Content, IsReady, IsAct, IsCallDone}
 use Rattle.cluster_model.specs.Starts.{StartsNode, StopsStart, IsRecovered, recovered}
 use Rattle.cluster_model.specs.Thrown.{with_stamps}
-use Rattle.cluster_model.specs.Rules.{Reaction, idle, push, widen, begin_deliver, begin_strike, begin_read, end_ticket, refuse, mishap}
+use Rattle.cluster_model.specs.Rules.{Reaction, idle, push, widen, begin_deliver, begin_strike, end_ticket, refuse, mishap}
 use Rattle.cluster_model.specs.Deeds.{slot_up, act_of, cut_act, drop_act, start_act, stop_act, IsOfPlan, hear}
 
 abbrev pub NodesHear : Type 0
@@ -49,9 +48,10 @@ NodesEnd = (own seq : ℕ) (node : Node) (disk : List Record) → IsReady own (s
 abbrev pub NodesRefuse : Type 0
 NodesRefuse = (own : ℕ) (kind : CallKind) (mishaps : Mishaps) (drawn : ℕ) (node : Node) (disk : List Record) → IsReady own (slot_up node disk) None → IsCallDone (act_of own node disk (refuse kind mishaps drawn node disk) None None [])
 
--- it begins a call that reads
+-- For a call that reads it draws numbers of tickets, learns stamps, and sends letters of such calls.
 abbrev pub NodesRead : Type 0
-NodesRead = (own : ℕ) (kind : CallKind) (found : Found) (node : Node) (disk : List Record) → IsReady own (slot_up node disk) None → IsCallDone (act_of own node disk (begin_read kind found node disk) None None [])
+NodesRead = (own calls count : ℕ) (out : List Letter) (node : Node) (disk : List Record) → ((letter : Letter) → Among letter out → is_read_body letter.body ≡ true) → IsReady own (slot_up node disk) None
+    → IsCallDone (act_of own node disk (record { node = record node { calls = calls; count = count }; disk = disk; out = out }) None None [])
 
 abbrev pub NodesNote : Type 0
 NodesNote = (kind : MishapKind) (own seq at : ℕ) (node : Node) (disk : List Record) → IsReady own (slot_up node disk) None → IsCallDone (act_of own node disk (mishap kind seq at node disk) None None [])

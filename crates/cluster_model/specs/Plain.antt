@@ -28,7 +28,7 @@ use Rattle.cluster_model.specs.World.{World, missed}
 use Rattle.cluster_model.specs.Steps.{NodeCall, Step, Said, StepFault, StepOutcome, mishaps_of_call, fails_at_once, ids_drawn, letter_at, greatest_boot, step_fault}
 use Rattle.cluster_model.specs.Steps.NodeCall.{Deliver, Login, Fetch, Strike, Leave}
 use Rattle.cluster_model.specs.Steps.Step.{Begin, AskFor, GiveUp, Post, DropLetter, PushTo, Widen, Form, Crash, Start, Lose, Tick}
-use Rattle.cluster_model.specs.Steps.Said.{Begun, Noted, Asked, Heard, Thrown, Sent, Widened, NodeUp, Finished}
+use Rattle.cluster_model.specs.Steps.Said.{Begun, Asked, Heard, Thrown, Sent, Widened, NodeUp, Finished}
 use Rattle.cluster_model.specs.Steps.StepFault.{NoSuchNode, NodeDown, NoSuchLetter, NoSuchTicket, Worn}
 use Rattle.cluster_model.specs.Steps.StepOutcome.{Says, Refused, NoMemory}
 use Rattle.cluster_model.specs.Makes.{after, with_struck, begun_by}
@@ -72,9 +72,9 @@ begins_as kind plan octets w own call node disk =
 abbrev pub begins : Plan → List ℕ → World → ℕ → NodeCall → Node → List Record → StepRan
 begins plan octets w own (Deliver mail) node disk = begins_as Delivering plan octets w own (Deliver mail) node disk
 begins plan octets w own (Strike user items) node disk = begins_as Striking plan octets w own (Strike user items) node disk
-begins plan octets w own (Leave user) node disk = says Noted w
+begins plan octets w own (Leave user login manager) node disk = runs_short w
 begins plan octets w own (Login user proof) node disk = runs_short w
-begins plan octets w own (Fetch user id from most) node disk = runs_short w
+begins plan octets w own (Fetch user id from most holders) node disk = runs_short w
 
 -- a ticket is asked
 abbrev pub answered_ticket : World → Number → Node → List Record → Ticket → Ask → StepRan
@@ -87,6 +87,11 @@ answered_ticket w number node disk ticket (Done answer) = says (Asked (Done answ
 abbrev pub asks : Plan → World → Number → Node → List Record → Option Ticket → StepRan
 asks plan w number node disk None = refuses NoSuchTicket w
 asks plan w number node disk (Some ticket) = answered_ticket w number node disk ticket (ask_of plan.confirm ticket)
+
+-- a ticket is given up
+abbrev pub gives_up : World → Number → Node → List Record → Option Ticket → StepRan
+gives_up w number node disk None = refuses NoSuchTicket w
+gives_up w number node disk (Some ticket) = says Finished (after w number.node (end_ticket number.seq node disk))
 
 -- the letters in flight without the first of this number
 abbrev pub without_letter : ℕ → List Flight → List Flight
@@ -148,7 +153,7 @@ starts w n (Some slot) =
 abbrev pub does : Plan → List ℕ → World → Step → StepRan
 does plan octets w (Begin node call) = at_node w node (begins plan octets w node call)
 does plan octets w (AskFor number) = at_node w number.node (λ node disk. asks plan w number node disk (ticket_at number.node node (Some number)))
-does plan octets w (GiveUp number) = at_node w number.node (λ node disk. says Finished (after w number.node (end_ticket number.seq node disk)))
+does plan octets w (GiveUp number) = at_node w number.node (λ node disk. gives_up w number node disk (ticket_at number.node node (Some number)))
 does plan octets w (Post number keep) = posts plan w number keep (letter_at number w.flying)
 does plan octets w (DropLetter number) = drops w number (letter_at number w.flying)
 does plan octets w (PushTo from to) = at_node w from (pushes w from to)

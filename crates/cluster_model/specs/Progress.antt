@@ -1,5 +1,5 @@
 -- How far a call has come: what an ask of its ticket answers.
-use Rattle.std.specs.Prelude.{ℕ, Bool, true, not, nat_le, List, [], ◌∷◌, ◌++◌, length, map, bit_or, Option, Some, None, if◌then◌else◌}
+use Rattle.std.specs.Prelude.{ℕ, Bool, true, not, nat_le, List, [], ◌∷◌, ◌++◌, length, map, bit_or, if◌then◌else◌}
 use Rattle.std.specs.List.{filter, list_all}
 use Rattle.mail_model.specs.Identity.{Id}
 use Rattle.mail_model.specs.Book.{BookEntry}
@@ -16,7 +16,7 @@ pub data NodeAnswer : Type 0 where
   Stored : (id : Id) (confirmers : ℕ) → NodeAnswer
   -- each copy is deleted, and these nodes confirmed it
   Dropped : (confirmers : List ℕ) → NodeAnswer
-  -- what it found as it began
+  -- what a call that reads found
   Read : (found : Found) → NodeAnswer
   -- too few nodes can confirm it any more
   Failed : (mishaps : Mishaps) → NodeAnswer
@@ -55,14 +55,9 @@ ask_of_wants confirm mishaps (want ∷ wants) =
     if list_all (is_confirmed confirm) (want ∷ wants) then Done (answer_once_confirmed (want ∷ wants) want want.asked)
     else (if has_failed confirm (want ∷ wants) then Done (Failed mishaps) else pending_of_call confirm (want ∷ wants) want want.asked)
 
--- a call that reads is done as it begins
-abbrev pub ask_of_found : ℕ → Ticket → Option Found → Ask
-ask_of_found confirm ticket None = ask_of_wants confirm ticket.mishaps ticket.wants
-ask_of_found confirm ticket (Some found) = Done (Read found)
-
 -- what an ask of the ticket answers
 abbrev pub ask_of : ℕ → Ticket → Ask
-ask_of confirm ticket = ask_of_found confirm ticket ticket.found
+ask_of confirm ticket = ask_of_wants confirm ticket.mishaps ticket.wants
 
 -- the entries of what is confirmed: of a message one for each user
 abbrev pub confirmed_entries : Want → AskedOfNodes → List BookEntry

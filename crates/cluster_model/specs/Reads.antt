@@ -1,4 +1,4 @@
--- What a call that reads finds: the listing of a mailbox, or a part of a message.
+-- What a call that reads comes to: the listing of a mailbox, or a part of a message.
 use Rattle.std.specs.Prelude.{◌≡◌, ℕ, Bool, true, false, ◌&&◌, List, length, take, drop, AllPairs, Option, Some, None, is_some, ◌↔◌}
 use Rattle.std.specs.Ordering.{nat_cmp, on, then_cmp, is_lt}
 use Rattle.std.specs.declared.cmp.Ordering.{Ordering}
@@ -10,6 +10,7 @@ use Rattle.mail_model.specs.Listing.{is_here, octets_in}
 use Rattle.object_model.specs.Keys.{id_cmp}
 use Rattle.object_model.specs.Lists.{Among}
 use Rattle.object_model.specs.Said.{said}
+use Rattle.object_model.specs.Letters.{Number}
 
 -- a user's copy of a message in a listing: its stamp and its targets by what the disk says, and how many octets the message has
 pub record ListedCopy : Type 0 where
@@ -18,14 +19,16 @@ pub record ListedCopy : Type 0 where
   pub targets : ℕ
   pub size : ℕ
 
--- what a call finds as it begins
+-- what it comes to
 pub data Found : Type 0 where
-  Listed : (items : List ListedCopy) → Found
-  WrongSecret : Found
-  -- another login has the maildrop; no node finds that yet
-  InUse : Found
-  -- the manager has no profile of the user; no node finds that yet
-  NoProfile : Found
+  -- the login is known by its ticket; its manager, the nodes that were asked, and the copies that they listed
+  Listed : (login : Number) (manager asked : ℕ) (items : List ListedCopy) → Found
+  -- the stamp of the secret that the proof does not match
+  WrongSecret : (stamp : Stamp) → Found
+  -- the login that has the maildrop
+  InUse : (by : Number) → Found
+  -- this manager has no profile of the user
+  NoProfile : (manager : ℕ) → Found
   -- octets of a message, which has so many in all
   PartOf : (octets : List ℕ) (whole : ℕ) → Found
   -- the copy is gone, or was never here

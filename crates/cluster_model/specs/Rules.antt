@@ -17,7 +17,6 @@ use Rattle.object_model.specs.Letters.{Number, DeletionMark, Body, Letter}
 use Rattle.object_model.specs.Letters.Body.{File, Filed, Strike, StrikeTold, Push, PushAck, Retire}
 use Rattle.object_model.specs.UpdateLog.{Logged, cleared}
 use Rattle.object_model.specs.Mishaps.{MishapKind, Mishaps, no_mishaps, counted}
-use Rattle.cluster_model.specs.Reads.{Found}
 use Rattle.cluster_model.specs.Cluster.{NodeFiling, AskedOfNodes, Want, CallKind, Ticket, Node, epoch_of}
 use Rattle.cluster_model.specs.Cluster.CallKind.{Delivering, Striking}
 use Rattle.cluster_model.specs.Cluster.AskedOfNodes.{Copies, Deletion}
@@ -218,7 +217,7 @@ begin_deliver own nodes seconds node disk users octets targets =
         count = node.count + 1;
         calls = node.calls + 1;
         log = store.log;
-        tickets = fin.insert node.tickets (node.calls + 1) (record { kind = Delivering; wants = new_want own (Copies filing) targets ∷ []; mishaps = no_mishaps; found = None });
+        tickets = fin.insert node.tickets (node.calls + 1) (record { kind = Delivering; wants = new_want own (Copies filing) targets ∷ []; mishaps = no_mishaps });
       };
       disk = store.disk;
       out = letters_to own (epoch_of node) (Some (new_number own node)) (receivers own targets nodes) (File id stamp targets users octets);
@@ -261,7 +260,7 @@ begin_strike own nodes node disk user asked =
         count = node.count + length asked;
         calls = node.calls + 1;
         log = store.log;
-        tickets = fin.insert node.tickets (node.calls + 1) (record { kind = Striking; wants = map (λ item. new_want own (Deletion user item.mark.id) item.asks) items; mishaps = no_mishaps; found = None });
+        tickets = fin.insert node.tickets (node.calls + 1) (record { kind = Striking; wants = map (λ item. new_want own (Deletion user item.mark.id) item.asks) items; mishaps = no_mishaps });
       };
       disk = store.disk;
       out = strikes_to own (epoch_of node) (new_number own node) user items nodes;
@@ -274,15 +273,7 @@ end_ticket seq node disk = record { node = record node { tickets = fin.remove no
 -- A call that fails at once: it has a ticket that wants nothing, with its mishaps, and a Deliver has drawn its number. Nothing is filed or sent.
 abbrev pub refuse : CallKind → Mishaps → ℕ → Node → List Record → Reaction
 refuse kind mishaps drawn node disk = record {
-  node = record node { drawn = node.drawn + drawn; calls = node.calls + 1; tickets = fin.insert node.tickets (node.calls + 1) (record { kind = kind; wants = []; mishaps = mishaps; found = None }) };
-  disk = disk;
-  out = [];
-}
-
--- A call that reads: its ticket has what it found. Nothing is filed or sent.
-abbrev pub begin_read : CallKind → Found → Node → List Record → Reaction
-begin_read kind found node disk = record {
-  node = record node { calls = node.calls + 1; tickets = fin.insert node.tickets (node.calls + 1) (record { kind = kind; wants = []; mishaps = no_mishaps; found = Some found }) };
+  node = record node { drawn = node.drawn + drawn; calls = node.calls + 1; tickets = fin.insert node.tickets (node.calls + 1) (record { kind = kind; wants = []; mishaps = mishaps }) };
   disk = disk;
   out = [];
 }

@@ -1,11 +1,11 @@
 -- What can be done with a world, what it answers, and what is refused.
-use Rattle.std.specs.Prelude.{ℕ, ◌+◌, ◌-◌, ◌^◌, max, Bool, true, false, not, ◌&&◌, ◌||◌, nat_eq, nat_lt, nat_le, List, [], ◌∷◌, length, Option, Some, None, is_some, if◌then◌else◌}
+use Rattle.std.specs.Prelude.{ℕ, ◌+◌, ◌-◌, ◌^◌, max, Bool, true, false, not, ◌&&◌, ◌||◌, nat_eq, nat_lt, nat_le, List, [], ◌∷◌, length, bit_and, Option, Some, None, is_some, if◌then◌else◌}
 use Rattle.std.specs.List.{list_all}
 use Rattle.mail_model.specs.Identity.{Id, EpochId}
 use Rattle.mail_model.specs.Plan.{Plan, Proof}
 use Rattle.mail_model.specs.Told.{Mail}
 use Rattle.object_model.specs.Letters.{Number, Letter}
-use Rattle.object_model.specs.Sets.{nodes_in}
+use Rattle.object_model.specs.Sets.{count_in, nodes_in}
 use Rattle.object_model.specs.Mishaps.{Mishaps, no_mishaps, counted, mishaps_of}
 use Rattle.object_model.specs.Mishaps.MishapKind.{FewMembers, Year}
 use Rattle.cluster_model.specs.Cluster.{Node, Life, Slot, slot_at, members_of}
@@ -21,14 +21,14 @@ pub record Struck : Type 0 where
   pub id : Id
   pub targets : ℕ
 
--- The calls that have a rule here: that a message be stored, that a user's mailbox be listed, that a part of a message be read, that copies of a user be deleted, and that a
--- login end. A part is of the octets from one on, and at most so many.
+-- The calls: that a message be stored, that a user's mailbox be listed, that a part of a message be read, that copies of a user be deleted, and that a login end. A part is of the
+-- octets from one on, and at most so many, and is asked of these holders. A login ends at its manager.
 pub data NodeCall : Type 0 where
   Deliver : (mail : Mail) → NodeCall
   Login : (user : List ℕ) (proof : Proof) → NodeCall
-  Fetch : (user : List ℕ) (id : Id) (from most : ℕ) → NodeCall
+  Fetch : (user : List ℕ) (id : Id) (from most holders : ℕ) → NodeCall
   Strike : (user : List ℕ) (items : List Struck) → NodeCall
-  Leave : (user : List ℕ) → NodeCall
+  Leave : (user : List ℕ) (login : Number) (manager : ℕ) → NodeCall
 
 pub data Step : Type 0 where
   Begin : (node : ℕ) (call : NodeCall) → Step
@@ -83,9 +83,14 @@ pub data StepOutcome : Type 0 where
   Refused : (fault : StepFault) → StepOutcome
   NoMemory : (down : Option ℕ) → StepOutcome
 
+-- the nodes that a call names beside its own
+abbrev pub nodes_of_call : NodeCall → List ℕ
+nodes_of_call (Leave user login manager) = manager ∷ []
+nodes_of_call call = []
+
 -- the nodes that a step names; the node in an id is not meant
 abbrev pub nodes_named : Step → List ℕ
-nodes_named (Begin node call) = node ∷ []
+nodes_named (Begin node call) = node ∷ nodes_of_call call
 nodes_named (AskFor ticket) = ticket.node ∷ []
 nodes_named (GiveUp ticket) = ticket.node ∷ []
 nodes_named (Post letter keep) = []
@@ -140,7 +145,7 @@ letter_fault (Post letter keep) flying = if is_some (letter_at letter flying) th
 letter_fault (DropLetter letter) flying = if is_some (letter_at letter flying) then None else Some NoSuchLetter
 letter_fault step flying = None
 
--- whether a ticket stands
+-- whether a ticket of messages stands
 abbrev pub ticket_stands_in : Number → Life → Bool
 ticket_stands_in number (Up node) = is_some (ticket_at number.node node (Some number))
 ticket_stands_in number (Down pending) = false
@@ -150,11 +155,6 @@ abbrev pub stands_at : Number → Option Slot → Bool
 stands_at number None = false
 stands_at number (Some slot) = ticket_stands_in number slot.life
 
-abbrev pub ticket_fault : Step → List Slot → Option StepFault
-ticket_fault (AskFor ticket) slots = if stands_at ticket (slot_at slots ticket.node) then None else Some NoSuchTicket
-ticket_fault (GiveUp ticket) slots = if stands_at ticket (slot_at slots ticket.node) then None else Some NoSuchTicket
-ticket_fault step slots = None
-
 -- Whether the node's epoch has fewer than F members, or none. A node without an epoch has none.
 abbrev pub has_few_members : Plan → Node → Bool
 has_few_members plan node = nat_lt (length (nodes_in (members_of node) plan.nodes)) (max 1 plan.confirm)
@@ -163,19 +163,27 @@ has_few_members plan node = nat_lt (length (nodes_in (members_of node) plan.node
 abbrev pub end_of_dates : ℕ
 end_of_dates = 253402300800
 
--- What makes a call fail at once: a Deliver or a Strike with too few members, a Deliver that has no date, and a Login or a Fetch at a node without an epoch.
+-- What makes a call fail at once: a Deliver or a Strike with too few members, a Deliver that has no date, a Login at a node without an epoch, and a Fetch of which no holder is a
+-- member. A Login fails so also where the map has no manager of its user, which messages do not see.
 abbrev pub few_mishaps : Plan → Node → Mishaps
 few_mishaps plan node = if has_few_members plan node then counted FewMembers no_mishaps else no_mishaps
 
 abbrev pub epoch_mishaps : Node → Mishaps
 epoch_mishaps node = if is_some node.installed then no_mishaps else counted FewMembers no_mishaps
 
+-- the holders that are members of the node's epoch
+abbrev pub asked_of : Node → ℕ → ℕ
+asked_of node holders = bit_and holders (members_of node)
+
+abbrev pub holder_mishaps : Node → ℕ → Mishaps
+holder_mishaps node holders = if nat_eq (count_in (asked_of node holders)) 0 then counted FewMembers no_mishaps else no_mishaps
+
 abbrev pub mishaps_of_call : Plan → ℕ → Node → NodeCall → Mishaps
 mishaps_of_call plan seconds node (Deliver mail) = if nat_le end_of_dates seconds then counted Year (few_mishaps plan node) else few_mishaps plan node
 mishaps_of_call plan seconds node (Login user proof) = epoch_mishaps node
-mishaps_of_call plan seconds node (Fetch user id from most) = epoch_mishaps node
+mishaps_of_call plan seconds node (Fetch user id from most holders) = holder_mishaps node holders
 mishaps_of_call plan seconds node (Strike user items) = few_mishaps plan node
-mishaps_of_call plan seconds node (Leave user) = no_mishaps
+mishaps_of_call plan seconds node (Leave user login manager) = no_mishaps
 
 abbrev pub fails_at_once : Plan → ℕ → Node → NodeCall → Bool
 fails_at_once plan seconds node call = nat_lt 0 (mishaps_of (mishaps_of_call plan seconds node call))
@@ -202,7 +210,7 @@ ids_drawn call = 0
 
 -- and of tickets: a Leave has none
 abbrev pub tickets_drawn : NodeCall → ℕ
-tickets_drawn (Leave user) = 0
+tickets_drawn (Leave user login manager) = 0
 tickets_drawn call = 1
 
 -- Whether the call would draw a number above the greatest. One that fails at once draws no stamp. Which boot a start would be it finds only on the disk.
@@ -263,8 +271,8 @@ first_fault [] = None
 first_fault (None ∷ faults) = first_fault faults
 first_fault (Some fault ∷ faults) = Some fault
 
--- why a step is refused, if it is: the first that applies
+-- Why a step is refused, if it is: the first that applies. Whether a ticket stands that messages do not have is not seen here.
 abbrev pub step_fault : Plan → Step → World → Option StepFault
 step_fault plan step w = first_fault (
-    node_name_fault plan step ∷ actor_fault step w.slots (actor_of step) ∷ letter_fault step w.flying ∷ ticket_fault step w.slots ∷ worn_fault plan step w ∷ room_fault step w ∷ []
+    node_name_fault plan step ∷ actor_fault step w.slots (actor_of step) ∷ letter_fault step w.flying ∷ worn_fault plan step w ∷ room_fault step w ∷ []
     )

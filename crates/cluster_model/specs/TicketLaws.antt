@@ -4,7 +4,6 @@ use Rattle.object_model.specs.Lists.{Among}
 use Rattle.object_model.specs.Sets.{has, count_in, nodes_in}
 use Rattle.object_model.specs.Letters.{Body}
 use Rattle.object_model.specs.Mishaps.{MishapKind, Mishaps, no_mishaps, counted, mishaps_of}
-use Rattle.cluster_model.specs.Reads.{Found}
 use Rattle.cluster_model.specs.Cluster.{NodeFiling, Want, CallKind, Ticket}
 use Rattle.cluster_model.specs.Cluster.AskedOfNodes.{Copies, Deletion}
 use Rattle.cluster_model.specs.Cluster.CallKind.{Delivering, Striking}
@@ -18,23 +17,18 @@ use Rattle.cluster_model.specs.Progress.NodeAnswer.{Failed}
 abbrev pub all_asked : Want → ℕ
 all_asked want = bit_or want.confirmed (bit_or want.waiting want.failed)
 
--- Each want asks F nodes at least, and no node failed, nor did the call fail at once, without a mishap. A call that reads asks no node.
+-- Each want asks F nodes at least, and no node failed, nor did the call fail at once, without a mishap.
 pub record IsFair (confirm : ℕ) (ticket : Ticket) : Type 0 where
   pub enough : (want : Want) → Among want ticket.wants → confirm ≤ count_in (all_asked want)
   pub caused : (want : Want) → Among want ticket.wants → (m : ℕ) → has want.failed m ≡ true → 0 < mishaps_of ticket.mishaps
-  pub at_once : ticket.found ≡ None → ticket.wants ≡ [] → 0 < mishaps_of ticket.mishaps
-  pub reads : (found : Found) → ticket.found ≡ Some found → ticket.wants ≡ []
+  pub at_once : ticket.wants ≡ [] → 0 < mishaps_of ticket.mishaps
 
 -- the ticket of a delivery to these targets, and of the deletion of these items
 abbrev pub delivery_ticket : ℕ → NodeFiling → ℕ → Ticket
-delivery_ticket own filing targets = record { kind = Delivering; wants = new_want own (Copies filing) targets ∷ []; mishaps = no_mishaps; found = None }
+delivery_ticket own filing targets = record { kind = Delivering; wants = new_want own (Copies filing) targets ∷ []; mishaps = no_mishaps }
 
 abbrev pub deletion_ticket : ℕ → List ℕ → List StrikeItem → Ticket
-deletion_ticket own user items = record { kind = Striking; wants = map (λ item. new_want own (Deletion user item.mark.id) item.asks) items; mishaps = no_mishaps; found = None }
-
--- the ticket of a call that found this
-abbrev pub reading_ticket : CallKind → Found → Ticket
-reading_ticket kind found = record { kind = kind; wants = []; mishaps = no_mishaps; found = Some found }
+deletion_ticket own user items = record { kind = Striking; wants = map (λ item. new_want own (Deletion user item.mark.id) item.asks) items; mishaps = no_mishaps }
 
 -- Where the epoch has F members, the targets of a delivery are F at least, and so are those that a deletion asks for each item.
 abbrev pub TargetsAreEnough : Type 0
@@ -47,8 +41,7 @@ abbrev pub TicketsBeginFair : Type 0
 TicketsBeginFair = (confirm own : ℕ)
     → ((filing : NodeFiling) (targets : ℕ) → confirm ≤ count_in targets → IsFair confirm (delivery_ticket own filing targets))
     × ((user : List ℕ) (items : List StrikeItem) → items ≢ [] → ((item : StrikeItem) → Among item items → confirm ≤ count_in item.asks) → IsFair confirm (deletion_ticket own user items))
-    × ((kind : CallKind) (mishaps : Mishaps) → 0 < mishaps_of mishaps → IsFair confirm (record { kind = kind; wants = []; mishaps = mishaps; found = None }))
-    × ((kind : CallKind) (found : Found) → IsFair confirm (reading_ticket kind found))
+    × ((kind : CallKind) (mishaps : Mishaps) → 0 < mishaps_of mishaps → IsFair confirm (record { kind = kind; wants = []; mishaps = mishaps }))
 
 -- and stay so with each answer that is heard and each mishap that is noted.
 abbrev pub TicketsStayFair : Type 0

@@ -68,6 +68,10 @@ put room (letter ∷ letters) w =
     then put room letters (record w { flying = w.flying ++ record { number = w.sent + 1; letter = letter } ∷ []; sent = w.sent + 1 })
     else put room letters (record w { slots = missed Crowded w.slots letter })
 
+-- a letter is put in flight, under the next number
+abbrev pub with_letter : World → Letter → World
+with_letter w letter = record w { flying = w.flying ++ record { number = w.sent + 1; letter = letter } ∷ []; sent = w.sent + 1 }
+
 -- where a letter is in flight
 pub record Flies (w : World) (number : ℕ) : Type 0 where
   pub front : List Flight

@@ -59,7 +59,7 @@ pub fn nodes_refuse()
     ensures { NodesRefuse }
 {}
 
-/// begins a call that reads,
+/// does something for a call that reads,
 pub fn nodes_read()
     ensures { NodesRead }
 {}

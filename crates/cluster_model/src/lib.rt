@@ -12,12 +12,11 @@
 //!
 //! The definitions, by module:
 //!
-//! - `Reads`: what a call that reads finds: the listing of a mailbox, or a part of a message.
+//! - `Reads`: what a call that reads comes to: the listing of a mailbox, or a part of a message.
 //! - `Cluster`: nodes with their soft state, their lives and disks, letters in flight, the book.
 //! - `Store`: how a node takes a state: joined, recorded and noted.
 //! - `Rules`: what a node does with the letters File, Filed, Strike, StrikeTold, Push, PushAck and
-//!   Retired, with a mishap, and as it begins a delivery, a deletion or a call that reads, pushes or
-//!   widens.
+//!   Retired, with a mishap, and as it begins a delivery or a deletion, pushes or widens.
 //! - `Targets`: which nodes a delivery and a deletion ask.
 //! - `Thrown`: which letters are thrown and why, and the stamps that a node learns of a letter.
 //! - `Starts`: what a node finds on its disk as it starts.
@@ -64,10 +63,11 @@
 //!
 //! WHAT IT DOES NOT DO
 //!
-//! It has no code of a node. Logins, fetches and leaves have a rule in a plan of one node alone, which
-//! reads its own disk. Membership and mail maps have none here: of a step that forms an epoch, and of
-//! a letter of theirs, messages see what may change at most, and `whole_world` says the rest. Letters
-//! of logins and fetches are heard and do nothing.
+//! It has no code of a node. Logins, fetches and leaves have no rule here: of their steps messages see
+//! that a node draws a number of a ticket, learns stamps and goes down as its disk fails, and that
+//! letters of such calls are sent, and are taken out with no note at a ticket of theirs. So it is with
+//! membership and mail maps: of a step that forms an epoch, and of a letter of theirs, messages see
+//! what may change at most, and `whole_world` says the rest.
 #![tactic(auto)]
 
 mod laws;

@@ -1,5 +1,5 @@
 -- Whatever a ticket that was begun is answered, what is known stays known.
-use Rattle.std.proofs.Common.{◌≡◌, ⊎_elim, ℕ, Bool, List, [], ◌∷◌, ◌++◌, map, flat_map, Some, refl, sym, ap, ◌∙◌, subst, append-nil}
+use Rattle.std.proofs.Common.{◌≡◌, ◌⊎◌, inl, inr, ⊎_elim, ℕ, Bool, List, [], ◌∷◌, ◌++◌, map, flat_map, Some, refl, sym, ap, ◌∙◌, subst, append-nil}
 use Rattle.std.proofs.lemmas.List.{map-append}
 use Rattle.std.proofs.lemmas.List.Concat.{flat_map-append}
 use Rattle.mail_model.specs.Identity.{Id}
@@ -25,7 +25,7 @@ use Rattle.cluster_model.specs.Reads.Found.{Listed, WrongSecret, InUse, NoProfil
 use Rattle.cluster_model.specs.Cluster.{Want, Ticket, Node, with_slot}
 use Rattle.cluster_model.specs.Cluster.AskedOfNodes.{Copies}
 use Rattle.cluster_model.specs.Rules.{end_ticket}
-use Rattle.cluster_model.specs.Progress.{NodeAnswer, answer_once_confirmed, ask_of, ask_of_found, ask_of_wants, confirmed_entries, wants_entries, entries_with}
+use Rattle.cluster_model.specs.Progress.{NodeAnswer, answer_once_confirmed, ask_of, ask_of_wants, confirmed_entries, wants_entries, entries_with}
 use Rattle.cluster_model.specs.Progress.NodeAnswer.{Stored, Dropped, Read, Failed}
 use Rattle.cluster_model.specs.Progress.Ask.{Done}
 use Rattle.cluster_model.specs.Deeds.{slot_up}
@@ -33,16 +33,16 @@ use Rattle.cluster_model.specs.World.{World}
 use Rattle.cluster_model.specs.Steps.Step.{AskFor}
 use Rattle.cluster_model.specs.Steps.Said.{Asked as AskedFor}
 use Rattle.cluster_model.specs.Steps.StepOutcome.{Says}
-use Rattle.cluster_model.specs.Makes.{IsUp, AnswersAsk, MakesStep}
+use Rattle.cluster_model.specs.Makes.{IsUp, AnswersAsk, AnswersRead, MakesStep}
 use Rattle.cluster_model.specs.Makes.AnswersAsk.{Waits, Ends}
 use Rattle.cluster_owes.specs.Seen.{found_told, answer_told}
 use Rattle.cluster_owes.specs.Outcomes.{BegunCall}
 use Rattle.cluster_owes.proofs.Masks.{IsMask}
 use Rattle.cluster_owes.proofs.Standing.{StandsAs}
 use Rattle.cluster_owes.proofs.Books.{AreMasked, AreDeletions, masked_for, acked_for, struck_for, dropped_for, entry_for, done_entries, book_acknowledged, book_dropped}
-use Rattle.cluster_owes.proofs.Known.{Filed, filing_of, AnswerStands, ReadingFits, TicketFits, AckStands, Known, HoldsNoMore, answer_stays}
-use Rattle.cluster_owes.proofs.QuietSteps.{StepKept, step_kept, no_brings, failed_drops, failed_acks, failed_stands}
-use Rattle.cluster_owes.proofs.Answering.{ticket_stands, unread, done_same, answered_so, failed_so, apart_same, others_push, quiet_answer, told_answer, old_acks, stands_not}
+use Rattle.cluster_owes.proofs.Known.{Filed, filing_of, AnswerStands, TicketFits, AckStands, Known, HoldsNoMore}
+use Rattle.cluster_owes.proofs.QuietSteps.{StepKept, step_kept, no_brings, known_answered, failed_drops, failed_acks, failed_stands}
+use Rattle.cluster_owes.proofs.Answering.{ticket_stands, answered_so, failed_so, apart_same, others_push, quiet_answer, told_answer, old_acks, stands_not}
 
 module _ (plan : Plan) (tells : Bool) (lines : List (List ℕ)) (asked : List Asked) (answered : List Answered) (begun : List BegunCall) (old new : World)
     (known : Known plan tells lines asked answered begun old) (k : ℕ) (number : Number) (node : Node) (disk : List Record) (stood : Ticket) (up : IsUp old number.node node disk)
@@ -113,19 +113,18 @@ module _ (plan : Plan) (tells : Bool) (lines : List (List ℕ)) (asked : List As
         all_acks (others_push known.told ack known.other_ids apart)
         (tt, tt)
 
-  delivered : (mail : Mail) (one : BegunCall) → one.ticket ≡ number → one.session ≡ k → IsSoundMail (Deliver mail) → TicketFits lines tells old.slots known.files one (Deliver mail) stood → Told (Deliver mail) (answer_told own)
+  delivered : (mail : Mail) (one : BegunCall) → one.ticket ≡ number → one.session ≡ k → IsSoundMail (Deliver mail) → TicketFits lines known.files one (Deliver mail) stood → Told (Deliver mail) (answer_told own)
   delivered mail one at by sound fits =
-      let asks = sym (unread plan.confirm stood fits.0) ∙ e in
       ⊎_elim
-      (λ none. failed (Deliver mail) (stood.mishaps, failed_so plan.confirm stood.mishaps stood.wants own none asks))
+      (λ none. failed (Deliver mail) (stood.mishaps, failed_so plan.confirm stood.mishaps stood.wants own none e))
       (λ (f, want, inside, ticket, mail_is, wants, copies, mask, kind, clock). ⊎_elim
       (λ all.
       let stored : own ≡ Stored f.id want.confirmed = all ∙ ap (answer_once_confirmed (want ∷ []) want) copies in
       subst (λ a. Told (Deliver mail) (answer_told a)) (sym stored)
       (stored_told mail f want inside (ticket ∙ at) mail_is wants copies mask (subst (λ s. kind_at (opened lines) s ≡ Some (Smtp, f.id.node)) by kind) clock sound stored))
       (λ bad. failed (Deliver mail) (stood.mishaps, bad))
-      (answered_so plan.confirm stood.mishaps stood.wants want [] own wants asks))
-      fits.1
+      (answered_so plan.confirm stood.mishaps stood.wants want [] own wants e))
+      fits
 
   -- copies are deleted
   gone : (user : List ℕ) (ids : List Id) → AreDeletions user ids stood.wants → (confirmers : List ℕ) → own ≡ Dropped confirmers → Told (Strike user ids) DroppedAnswer
@@ -154,72 +153,83 @@ module _ (plan : Plan) (tells : Bool) (lines : List (List ℕ)) (asked : List As
       (λ bad. failed (Strike user (id ∷ ids)) (stood.mishaps, bad))
       (answered_so plan.confirm stood.mishaps stood.wants want more own same asks)
 
-  struck : (user : List ℕ) (ids : List Id) (one : BegunCall) → TicketFits lines tells old.slots known.files one (Strike user ids) stood → Told (Strike user ids) (answer_told own)
-  struck user ids one fits =
-      let asks = sym (unread plan.confirm stood fits.0) ∙ e in
-      ⊎_elim
-      (λ none. failed (Strike user ids) (stood.mishaps, failed_so plan.confirm stood.mishaps stood.wants own none asks))
-      (λ are. deleted user ids stood.wants refl are asks)
-      fits.1
-
-  -- what a call found
-  read_is : (found : Found) → stood.found ≡ Some found → own ≡ Read found
-  read_is found same = sym (done_same (Read found) own (sym (ap (ask_of_found plan.confirm stood) same) ∙ e))
-
-  no_acks : (call : Call) (found : Found) → ((mail : Mail) → call ≡ Deliver mail → ⊥) → acks_by (record { session = k; call = call; answer = found_told found }) ≡ []
-  no_acks (Deliver mail) found never = absurd (never mail refl)
-  no_acks (Login user given) found never = refl
-  no_acks (Fetch user id) found never = refl
-  no_acks (Strike user ids) found never = refl
-
-  no_drops : (call : Call) (found : Found) → dropped_by call (found_told found) ≡ []
-  no_drops (Deliver mail) found = refl
-  no_drops (Login user given) found = refl
-  no_drops (Fetch user id) found = refl
-  no_drops (Strike user ids) (Listed items) = refl
-  no_drops (Strike user ids) WrongSecret = refl
-  no_drops (Strike user ids) InUse = refl
-  no_drops (Strike user ids) NoProfile = refl
-  no_drops (Strike user ids) (PartOf octets whole) = refl
-  no_drops (Strike user ids) NotThere = refl
-
-  read : (call : Call) (found : Found) → ((mail : Mail) → call ≡ Deliver mail → ⊥) → stood.found ≡ Some found → AnswerStands tells old.slots call (found_told found) → Told call (answer_told own)
-  read call found never same so = subst (λ a. Told call (answer_told a)) (sym (read_is found same))
-      (quiet call (found_told found) (ap (λ a. entries_with a stood) (read_is found same)) (no_drops call found) (no_acks call found never)
-      (answer_stays tells old.slots new.slots kept.grew call (found_told found) so))
-
-  reading : (call : Call) → ((mail : Mail) → call ≡ Deliver mail → ⊥) → ReadingFits tells old.slots call stood → Told call (answer_told own)
-  reading call never fits = ⊎_elim
-      (λ none. failed call (stood.mishaps, failed_so plan.confirm stood.mishaps stood.wants own none.1 (sym (unread plan.confirm stood none.0) ∙ e)))
-      (λ (found, is, so). read call found never is so)
+  struck : (user : List ℕ) (ids : List Id) (one : BegunCall) → TicketFits lines known.files one (Strike user ids) stood → Told (Strike user ids) (answer_told own)
+  struck user ids one fits = ⊎_elim
+      (λ none. failed (Strike user ids) (stood.mishaps, failed_so plan.confirm stood.mishaps stood.wants own none e))
+      (λ are. deleted user ids stood.wants refl are e)
       fits
 
-  pub any_answer : (one : BegunCall) → one.ticket ≡ number → one.session ≡ k → IsSoundMail one.call → (call : Call) → one.call ≡ call → TicketFits lines tells old.slots known.files one call stood
+  -- a call that reads failed at once
+  reading : (call : Call) → stood.wants ≡ [] → Told call (answer_told own)
+  reading call none = failed call (stood.mishaps, failed_so plan.confirm stood.mishaps stood.wants own none e)
+
+  pub any_answer : (one : BegunCall) → one.ticket ≡ number → one.session ≡ k → IsSoundMail one.call → (call : Call) → one.call ≡ call → TicketFits lines known.files one call stood
       → Told call (answer_told own)
   any_answer one at by sound (Deliver mail) same fits = delivered mail one at by (subst IsSoundMail same sound) fits
-  any_answer one at by sound (Login user given) same fits = reading (Login user given) (λ mail e. cc e) fits
-  any_answer one at by sound (Fetch user id) same fits = reading (Fetch user id) (λ mail e. cc e) fits
+  any_answer one at by sound (Login user given) same fits = reading (Login user given) fits
+  any_answer one at by sound (Fetch user id) same fits = reading (Fetch user id) fits
   any_answer one at by sound (Strike user ids) same fits = struck user ids one fits
 
-pub known_answers : (plan : Plan) (tells : Bool) (lines : List (List ℕ)) (asked : List Asked) (answered : List Answered) (begun : List BegunCall) (old new : World) (k : ℕ) (call : Call) (number : Number) (own : NodeAnswer)
-    → Among (record { ticket = number; session = k; call = call }) begun → MakesStep plan tells old (AskFor number) (Says (AskedFor (Done own))) new → Known plan tells lines asked answered begun old
-    → Known plan tells lines asked (answered ++ record { session = k; call = call; answer = answer_told own } ∷ []) begun new
-known_answers plan tells lines asked answered begun old new k call number own among made known = by made.1
-  where
-    one : BegunCall
-    one = record { ticket = number; session = k; call = call }
+-- what a call found acknowledges nothing, and deletes nothing
+no_acks : (k : ℕ) (call : Call) (found : Found) → acks_by (record { session = k; call = call; answer = found_told found }) ≡ []
+no_acks k (Deliver mail) (Listed login manager by items) = refl
+no_acks k (Deliver mail) (WrongSecret stamp) = refl
+no_acks k (Deliver mail) (InUse by) = refl
+no_acks k (Deliver mail) (NoProfile manager) = refl
+no_acks k (Deliver mail) (PartOf octets whole) = refl
+no_acks k (Deliver mail) NotThere = refl
+no_acks k (Login user given) found = refl
+no_acks k (Fetch user id) found = refl
+no_acks k (Strike user ids) found = refl
 
-    kept : StepKept plan old new
-    kept = step_kept plan tells old new (AskFor number) (Says (AskedFor (Done own))) made known.in_plan known.sound
+no_drops : (call : Call) (found : Found) → dropped_by call (found_told found) ≡ []
+no_drops (Deliver mail) found = refl
+no_drops (Login user given) found = refl
+no_drops (Fetch user id) found = refl
+no_drops (Strike user ids) (Listed login manager by items) = refl
+no_drops (Strike user ids) (WrongSecret stamp) = refl
+no_drops (Strike user ids) (InUse by) = refl
+no_drops (Strike user ids) (NoProfile manager) = refl
+no_drops (Strike user ids) (PartOf octets whole) = refl
+no_drops (Strike user ids) NotThere = refl
 
-    holds : HoldsNoMore old new
-    holds = no_brings plan tells old new (AskFor number) (Says (AskedFor (Done own))) (λ id octets m. m) made known.in_plan known.sound
+-- What a call that reads found has to stand: messages do not see its ticket.
+abbrev pub FoundStands : Bool → World → Call → NodeAnswer → Type 0
+FoundStands tells w call own = (found : Found) → own ≡ Read found → AnswerStands tells w.slots call (found_told found)
 
-    by : AnswersAsk plan old number (AskedFor (Done own)) new → Known plan tells lines asked (answered ++ record { session = k; call = call; answer = answer_told own } ∷ []) begun new
-    by (Waits node disk stood up found got wanted e is new_world) = absurd (cc is)
-    by (Ends node disk stood up found answer e is new_world) =
-        let stands = ticket_stands number old.slots node disk stood up found in
-        let same : answer ≡ own = cc is in
-        any_answer plan tells lines asked answered begun old new known k number node disk stood up kept holds own
-        (new_world ∙ ap (λ a. record old { slots = with_slot old.slots number.node (slot_up (end_ticket number.seq node disk).node disk); book = old.book ++ entries_with a stood }) same)
-        stands (e ∙ ap Done same) one refl refl (known.calls one among).sound call refl (known.tickets one stood among stands)
+module _ (plan : Plan) (tells : Bool) (lines : List (List ℕ)) (asked : List Asked) (answered : List Answered) (begun : List BegunCall) (old new : World)
+    (known : Known plan tells lines asked answered begun old) (k : ℕ) (call : Call) (number : Number) where
+  -- such a ticket is answered
+  read_answers : (own : NodeAnswer) → FoundStands tells new call own → AnswersRead old number (AskedFor (Done own)) new
+      → Known plan tells lines asked (answered ++ record { session = k; call = call; answer = answer_told own } ∷ []) begun new
+  read_answers (Stored id confirmers) stands read = absurd read.said_is
+  read_answers (Dropped confirmers) stands read = absurd read.said_is
+  read_answers (Read found) stands read = known_answered plan tells lines asked answered begun new k call (found_told found) (no_drops call found) (no_acks k call found) (stands found refl)
+      (subst (λ (w : World). Known plan tells lines asked answered begun w) (sym read.new_world) known)
+  read_answers (Failed mishaps) stands read = known_answered plan tells lines asked answered begun new k call FailedAnswer (failed_drops call) (failed_acks k call) (failed_stands tells new call)
+      (subst (λ (w : World). Known plan tells lines asked answered begun w) (sym read.new_world) known)
+
+  pub known_answers : (own : NodeAnswer) → FoundStands tells new call own → Among (record { ticket = number; session = k; call = call }) begun
+      → MakesStep plan tells old (AskFor number) (Says (AskedFor (Done own))) new
+      → Known plan tells lines asked (answered ++ record { session = k; call = call; answer = answer_told own } ∷ []) begun new
+  known_answers own shown among made = by made.1
+    where
+      one : BegunCall
+      one = record { ticket = number; session = k; call = call }
+
+      kept : StepKept plan old new
+      kept = step_kept plan tells old new (AskFor number) (Says (AskedFor (Done own))) made known.in_plan known.sound
+
+      holds : HoldsNoMore old new
+      holds = no_brings plan tells old new (AskFor number) (Says (AskedFor (Done own))) (λ id octets m. m) made known.in_plan known.sound
+
+      by : AnswersAsk plan old number (AskedFor (Done own)) new ⊎ AnswersRead old number (AskedFor (Done own)) new
+          → Known plan tells lines asked (answered ++ record { session = k; call = call; answer = answer_told own } ∷ []) begun new
+      by (inl (Waits node disk stood up found got wanted e is new_world)) = absurd (cc is)
+      by (inl (Ends node disk stood up found answer e is new_world)) =
+          let stands = ticket_stands number old.slots node disk stood up found in
+          let same : answer ≡ own = cc is in
+          any_answer plan tells lines asked answered begun old new known k number node disk stood up kept holds own
+          (new_world ∙ ap (λ a. record old { slots = with_slot old.slots number.node (slot_up (end_ticket number.seq node disk).node disk); book = old.book ++ entries_with a stood }) same)
+          stands (e ∙ ap Done same) one refl refl (known.calls one among).sound call refl (known.tickets one stood among stands)
+      by (inr read) = read_answers own shown read

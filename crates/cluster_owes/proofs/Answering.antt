@@ -18,7 +18,7 @@ use Rattle.session_model.specs.Books.{acks_by, dropped_by, AreAcksOf}
 use Rattle.cluster_model.specs.Cluster.{AskedOfNodes, Want, Ticket, Node, Slot, slot_at, with_slot}
 use Rattle.cluster_model.specs.Cluster.AskedOfNodes.{Copies, Deletion}
 use Rattle.cluster_model.specs.Rules.{ticket_at, end_ticket}
-use Rattle.cluster_model.specs.Progress.{NodeAnswer, is_confirmed, has_failed, answer_once_confirmed, pending_of_call, ask_of_wants, ask_of_found, ask_of}
+use Rattle.cluster_model.specs.Progress.{NodeAnswer, is_confirmed, has_failed, answer_once_confirmed, pending_of_call, ask_of_wants}
 use Rattle.cluster_model.specs.Progress.NodeAnswer.{Failed}
 use Rattle.cluster_model.specs.Progress.Ask.{Done}
 use Rattle.cluster_model.specs.Deeds.{slot_up}
@@ -30,7 +30,7 @@ use Rattle.cluster_owes.proofs.Standing.{StandsAs, NoneNew, TicketsGo, slot_quie
 use Rattle.cluster_owes.proofs.NodeSteps.{end_goes, ended}
 use Rattle.cluster_owes.proofs.WorldSteps.{AreLives, TicketsStep, steps_so}
 use Rattle.cluster_owes.proofs.Books.{IsBooked, AreMasked, masked_both}
-use Rattle.cluster_owes.proofs.Known.{Filed, AreApart, AnswerStands, TicketFits, AckStands, Known, HoldsNoMore, calls_still, tickets_still, filed_still, acks_still, answers_still}
+use Rattle.cluster_owes.proofs.Known.{Filed, AreApart, AnswerStands, TicketFits, AckStands, Known, HoldsNoMore, calls_still, tickets_still, numbered_still, filed_still, acks_still, answers_still}
 use Rattle.cluster_owes.proofs.QuietSteps.{StepKept, known_quiet, known_answered, answers_either}
 
 -- the ticket that is found stands
@@ -41,10 +41,6 @@ ticket_stands number slots node disk ticket up e = by (nat_eq number.node number
     by : (b : Bool) → (nat_eq number.node number.node && nat_eq number.boot node.boot) ≡ b → (if b then fin.get node.tickets number.seq else None) ≡ Some ticket → StandsAs slots number ticket
     by true t g = record { node = node; disk = disk; up = up; boot = eqb-true number.boot node.boot (and_parts (nat_eq number.node number.node) (nat_eq number.boot node.boot) t).1; here = g }
     by false t g = absurd (cc g)
-
--- what an ask of a ticket that was not read answers
-pub unread : (confirm : ℕ) (ticket : Ticket) → ticket.found ≡ None → ask_of confirm ticket ≡ ask_of_wants confirm ticket.mishaps ticket.wants
-unread confirm ticket none = ap (ask_of_found confirm ticket) none
 
 pub done_same : (a b : NodeAnswer) → Done a ≡ Done b → a ≡ b
 done_same a b e = cc
@@ -136,8 +132,9 @@ module _ (plan : Plan) (tells : Bool) (lines : List (List ℕ)) (asked : List As
       apart = known.apart;
       filed = λ f m. filed_still plan tells lines asked answered begun old new known kept.grew (λ n. ⊥) step (λ n w none. none) f m (λ octets h. (known.filed f m).held octets (holds f.id octets h));
       calls = λ one m. calls_still plan tells lines asked answered begun old new known kept.grew (λ n. ⊥) step (λ n w none. none) one m;
-      tickets = λ one ticket m s. subst (λ files. TicketFits lines tells new.slots files one one.call ticket) (same_files known.files)
+      tickets = λ one ticket m s. subst (λ files. TicketFits lines files one one.call ticket) (same_files known.files)
           (tickets_still plan tells lines asked answered begun old new known kept.grew (λ n. ⊥) step (λ n w none. none) [] one ticket m s);
+      numbered = λ number ticket s. numbered_still plan tells lines asked answered begun old new known kept.grew (λ n. ⊥) step (λ n w none. none) (λ n none. absurd none) number ticket s;
       acks = acks;
       other_ids = others;
       answers = λ one m. ⊎_elim

@@ -1,5 +1,5 @@
 -- A call that began, or in which its node went down: what is known then.
-use Rattle.std.proofs.Common.{◌≡◌, ⊎_elim, ℕ, Bool, true, false, List, [], ◌∷◌, ◌++◌, map, Some, None, refl, sym, ap, ◌∙◌, subst, if◌then◌else◌}
+use Rattle.std.proofs.Common.{◌≡◌, ◌⊎◌, inl, inr, ⊎_elim, ℕ, Bool, true, false, List, [], ◌∷◌, ◌++◌, map, Some, None, refl, sym, ap, ◌∙◌, subst, if◌then◌else◌}
 use Rattle.mail_model.specs.Identity.{Id}
 use Rattle.mail_model.specs.Mail.{IsStored}
 use Rattle.mail_model.specs.Plan.{Plan}
@@ -18,8 +18,9 @@ use Rattle.cluster_model.specs.Steps.{Struck, NodeCall, Said, StepOutcome}
 use Rattle.cluster_model.specs.Steps.NodeCall.{Deliver as DeliverCall, Login as LoginCall, Fetch as FetchCall, Strike as StrikeCall, Leave}
 use Rattle.cluster_model.specs.Steps.Step.{Begin}
 use Rattle.cluster_model.specs.Steps.StepOutcome.{Says}
-use Rattle.cluster_model.specs.Makes.{IsUp, struck_entries, with_struck, NodeGoesDown, BeginsCall, RunsShort, MakesStep}
-use Rattle.cluster_model.specs.Makes.BeginsCall.{FailsAtOnce, Goes, FailsInIt, Reads, FailsReading, Leaves}
+use Rattle.cluster_model.specs.Makes.{IsUp, struck_entries, with_struck, NodeGoesDown, BeginsCall, BeginsRead, RunsShort, MakesStep}
+use Rattle.cluster_model.specs.Makes.BeginsCall.{FailsAtOnce, Goes, FailsInIt}
+use Rattle.cluster_model.specs.Makes.BeginsRead.{HasNoManager, Draws, FailsReading, Leaves}
 use Rattle.cluster_model.specs.Makes.RunsShort.{Beginning, Hearing, Widening, Forming, Starting}
 use Rattle.cluster_model.proofs.Running.{steps_bring}
 use Rattle.cluster_owes.specs.Seen.{is_whole, call_made}
@@ -45,23 +46,23 @@ back xs = sym (nothing xs)
 pub with_book : (w : World) (call : NodeCall) → (with_struck w call).book ≡ w.book ++ struck_more call
 with_book w (DeliverCall mail) = nothing w.book
 with_book w (LoginCall user proof) = nothing w.book
-with_book w (FetchCall user id from most) = nothing w.book
+with_book w (FetchCall user id from most holders) = nothing w.book
 with_book w (StrikeCall user items) = refl
-with_book w (Leave user) = nothing w.book
+with_book w (Leave user login manager) = nothing w.book
 
 pub with_slots : (w : World) (call : NodeCall) → (with_struck w call).slots ≡ w.slots
 with_slots w (DeliverCall mail) = refl
 with_slots w (LoginCall user proof) = refl
-with_slots w (FetchCall user id from most) = refl
+with_slots w (FetchCall user id from most holders) = refl
 with_slots w (StrikeCall user items) = refl
-with_slots w (Leave user) = refl
+with_slots w (Leave user login manager) = refl
 
 pub with_seconds : (w : World) (call : NodeCall) → (with_struck w call).seconds ≡ w.seconds
 with_seconds w (DeliverCall mail) = refl
 with_seconds w (LoginCall user proof) = refl
-with_seconds w (FetchCall user id from most) = refl
+with_seconds w (FetchCall user id from most holders) = refl
 with_seconds w (StrikeCall user items) = refl
-with_seconds w (Leave user) = refl
+with_seconds w (Leave user login manager) = refl
 
 abbrev Pairs : Type 0
 Pairs = List (List ℕ × Id)
@@ -81,27 +82,27 @@ dropped_items user (item ∷ items) = dropped_items user items
 pub struck_is : (call : NodeCall) (asked : Call) → call_made call ≡ Some asked → struck_in (struck_more call) ≡ struck_by asked
 struck_is (DeliverCall mail) asked e = ap struck_by (let same : Deliver mail ≡ asked = cc e in same)
 struck_is (LoginCall user proof) asked e = ap struck_by (let same : Login user (given_of proof) ≡ asked = cc e in same)
-struck_is (FetchCall user id from most) asked e = by (is_whole from most) e
+struck_is (FetchCall user id from most holders) asked e = by (is_whole from most) e
   where
     by : (b : Bool) → (if b then Some (Fetch user id) else None) ≡ Some asked → [] ≡ struck_by asked
     by true g = ap struck_by (let same : Fetch user id ≡ asked = cc g in same)
     by false g = absurd (cc g)
 struck_is (StrikeCall user items) asked e = struck_items user items ∙ ap struck_by (let same : Strike user (map (λ item. item.id) items) ≡ asked = cc e in same)
-struck_is (Leave user) asked e = absurd (cc e)
+struck_is (Leave user login manager) asked e = absurd (cc e)
 
 pub struck_acked : (call : NodeCall) → acked_in (struck_more call) ≡ []
 struck_acked (DeliverCall mail) = refl
 struck_acked (LoginCall user proof) = refl
-struck_acked (FetchCall user id from most) = refl
+struck_acked (FetchCall user id from most holders) = refl
 struck_acked (StrikeCall user items) = acked_items user items
-struck_acked (Leave user) = refl
+struck_acked (Leave user login manager) = refl
 
 pub struck_dropped : (call : NodeCall) → dropped_in (struck_more call) ≡ []
 struck_dropped (DeliverCall mail) = refl
 struck_dropped (LoginCall user proof) = refl
-struck_dropped (FetchCall user id from most) = refl
+struck_dropped (FetchCall user id from most holders) = refl
 struck_dropped (StrikeCall user items) = dropped_items user items
-struck_dropped (Leave user) = refl
+struck_dropped (Leave user login manager) = refl
 
 assoc : (xs ys zs : List BookEntry) → (xs ++ ys) ++ zs ≡ xs ++ (ys ++ zs)
 assoc [] ys zs = refl
@@ -120,9 +121,9 @@ module _ (plan : Plan) (tells : Bool) (lines : List (List ℕ)) (asked : List As
   may_not : (f : Filed) → Among f known.files → (some : NodeCall) (octets : List ℕ) → MayBring old (Begin own some) f.id octets → ⊥
   may_not f m (DeliverCall mail) octets b = not_drawn_yet old own mail f.id octets b (known.filed f m).drawn
   may_not f m (LoginCall user proof) octets b = b
-  may_not f m (FetchCall user id from most) octets b = b
+  may_not f m (FetchCall user id from most holders) octets b = b
   may_not f m (StrikeCall user items) octets b = b
-  may_not f m (Leave user) octets b = b
+  may_not f m (Leave user login manager) octets b = b
 
   pub held : (f : Filed) → Among f known.files → (octets : List ℕ) → IsHeldSomewhere new.slots (letters_of new.flying) f.id octets → IsStored f.mail f.id f.seconds octets
   held f m octets h = ⊎_elim
@@ -143,7 +144,7 @@ module _ (plan : Plan) (tells : Bool) (lines : List (List ℕ)) (asked : List As
       (dropped_both (struck_more some) other.entries ∙ ap (λ (l : Pairs). dropped_in (struck_more some) ++ l) other.lives.dropped ∙ no_more (dropped_in (struck_more some)) ∙ struck_dropped some)
       (acked_both (struck_more some) other.entries ∙ ap (λ l. acked_in (struck_more some) ++ l) other.lives.acked ∙ no_copies (acked_in (struck_more some)) ∙ struck_acked some)
       (subst (λ s. TicketsStep s new.slots (λ n t. ⊥)) (with_slots old some) other.goes.tickets) (λ n w none. none)
-      held [] (subst AreApart (sym (same_files known.files)) known.apart) (λ f m. absurd m) [] (λ last m. absurd m) (λ last t m. absurd m)
+      held [] (subst AreApart (sym (same_files known.files)) known.apart) (λ f m. absurd m) [] (λ last m. absurd m) (λ last t m s. absurd m) (λ n none. absurd none)
     where
       no_more : (l : Pairs) → l ++ [] ≡ l
       no_more [] = refl
@@ -156,14 +157,16 @@ module _ (plan : Plan) (tells : Bool) (lines : List (List ℕ)) (asked : List As
   down_in : (some : NodeCall) (node : Node) (disk whole : List Record) (n : ℕ) → IsUp old n node disk → NodeGoesDown (with_struck old some) n disk whole new → OtherGoes (with_struck old some) new
   down_in some node disk whole n up g = cut_goes (with_struck old some) new n node disk g.front g.pending (ap (λ s. slot_at s n) (with_slots old some) ∙ up) g.is
 
-  pub says_fell : (said : Said) → IsFall (Says said) → BeginsCall plan tells old own call said new → Known plan tells lines (asked ++ one ∷ []) answered (begun ++ []) new
-  says_fell said fall (FailsAtOnce node disk kind up of_kind fails is new_world) = absurd (subst (λ s. IsFall (Says s)) is fall)
-  says_fell said fall (Goes node disk octets up fails filed is new_world) = absurd (subst (λ s. IsFall (Says s)) is fall)
-  says_fell said fall (FailsInIt node disk octets up filed is g) = fell_in call is_call (down_in call node disk _ own up g)
-  says_fell said fall (Reads node disk kind what up alone goes of_kind finds is new_world) = absurd (subst (λ s. IsFall (Says s)) is fall)
-  says_fell said fall (FailsReading node disk user id from most up alone goes reads is new_world) =
-      fell_in (FetchCall user id from most) (ap call_made (sym reads) ∙ is_call) (cut_goes old new own node disk [] [] up new_world)
-  says_fell said fall (Leaves node disk user up alone leaves is new_world) = absurd (subst (λ s. IsFall (Says s)) is fall)
+  pub says_fell : (said : Said) → IsFall (Says said) → BeginsCall plan tells old own call said new ⊎ BeginsRead plan old own call said new
+      → Known plan tells lines (asked ++ one ∷ []) answered (begun ++ []) new
+  says_fell said fall (inl (FailsAtOnce node disk kind up of_kind fails is new_world)) = absurd (subst (λ s. IsFall (Says s)) is fall)
+  says_fell said fall (inl (Goes node disk octets up fails filed is new_world)) = absurd (subst (λ s. IsFall (Says s)) is fall)
+  says_fell said fall (inl (FailsInIt node disk octets up filed is g)) = fell_in call is_call (down_in call node disk _ own up g)
+  says_fell said fall (inr (HasNoManager node disk user proof up logs_in goes is new_world)) = absurd (subst (λ s. IsFall (Says s)) is fall)
+  says_fell said fall (inr (Draws node disk up draws goes is on)) = absurd (subst (λ s. IsFall (Says s)) is fall)
+  says_fell said fall (inr (FailsReading node disk user id from most holders up fetches reads is new_world)) =
+      fell_in (FetchCall user id from most holders) (ap call_made (sym fetches) ∙ is_call) (cut_goes old new own node disk [] [] up new_world)
+  says_fell said fall (inr (Leaves node disk user login manager up leaves is on)) = absurd (subst (λ s. IsFall (Says s)) is fall)
 
   pub short_fell : (n : ℕ) → RunsShort plan old (Begin own call) n new → Known plan tells lines (asked ++ one ∷ []) answered (begun ++ []) new
   short_fell n (Beginning some node disk octets is up filed g) = fell_in some (ap call_made (same_call is) ∙ is_call) (down_in some node disk _ n up g)

@@ -34,7 +34,7 @@ use Rattle.cluster_owes.proofs.Standing.{StandsAs, IsWithinCalls, SameCall, None
 use Rattle.cluster_owes.proofs.NodeSteps.{begin_goes}
 use Rattle.cluster_owes.proofs.WorldSteps.{TicketsStep}
 use Rattle.cluster_owes.proofs.Books.{IsBooked, AreMasked, masked_both, masked_none, book_begun}
-use Rattle.cluster_owes.proofs.Known.{Filed, AreApart, TicketFits, FiledStands, BegunStands, Known, calls_still, tickets_still, filed_still, acks_still, answers_still}
+use Rattle.cluster_owes.proofs.Known.{Filed, AreApart, TicketFits, FiledStands, BegunStands, Known, calls_still, tickets_still, numbered_still, filed_still, acks_still, answers_still}
 use Rattle.cluster_owes.proofs.QuietSteps.{StepKept}
 
 -- what was drawn is drawn, whatever befalls letters
@@ -169,7 +169,8 @@ module _ (plan : Plan) (tells : Bool) (lines : List (List ℕ)) (asked : List As
     (held : (f : Filed) → Among f known.files → (octets : List ℕ) → IsHeldSomewhere new.slots (letters_of new.flying) f.id octets → IsStored f.mail f.id f.seconds octets)
     (files : List Filed) (apart : AreApart (known.files ++ files)) (filed : (f : Filed) → Among f files → FiledStands new f)
     (lasts : List BegunCall) (stand : (last : BegunCall) → Among last lasts → BegunStands new last)
-    (fit : (last : BegunCall) (ticket : Ticket) → Among last lasts → StandsAs new.slots last.ticket ticket → TicketFits lines tells new.slots (known.files ++ files) last last.call ticket) where
+    (fit : (last : BegunCall) (ticket : Ticket) → Among last lasts → StandsAs new.slots last.ticket ticket → TicketFits lines (known.files ++ files) last last.call ticket)
+    (begins : (number : Number) → New number → IsWithinCalls new.slots number) where
   pub known_begun : Known plan tells lines (asked ++ one ∷ []) answered (begun ++ lasts) new
   known_begun = record {
     in_plan = kept.in_plan;
@@ -193,6 +194,7 @@ module _ (plan : Plan) (tells : Bool) (lines : List (List ℕ)) (asked : List As
         (λ was. tickets_still plan tells lines asked answered begun old new known kept.grew New step fresh files call ticket was s)
         (λ is. fit call ticket is s)
         (among_either call begun lasts m);
+    numbered = λ number ticket s. numbered_still plan tells lines asked answered begun old new known kept.grew New step fresh begins number ticket s;
     acks = λ ack m. acks_still plan tells lines asked answered begun old new known kept.grew New step fresh files ack m;
     other_ids = known.other_ids;
     answers = λ a m. answers_still plan tells lines asked answered begun old new known kept.grew New step fresh a m;

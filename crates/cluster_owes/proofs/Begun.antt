@@ -27,7 +27,6 @@ use Rattle.cluster_owes.specs.Outcomes.{BegunCall, IsTakenAt}
 use Rattle.cluster_owes.proofs.Masks.{IsMask, one_mask}
 use Rattle.cluster_owes.proofs.Standing.{StandsAs, IsWithinCalls, SameCall}
 use Rattle.cluster_owes.proofs.WorldSteps.{TicketsStep, boot_id}
-use Rattle.cluster_owes.proofs.Growing.{grew_not}
 use Rattle.cluster_owes.proofs.Books.{AreDeletions}
 use Rattle.cluster_owes.proofs.Known.{Filed, AreApart, TicketFits, FiledStands, BegunStands, Known, fits_still}
 use Rattle.cluster_owes.proofs.QuietSteps.{StepKept}
@@ -103,7 +102,7 @@ module _ (plan : Plan) (tells : Bool) (lines : List (List ℕ)) (asked : List As
     boot_drawn = drawn_now (boot_id (new_number own node)) refl refl (omega arith)
 
     pub begins_so : (files : List Filed) → AreApart (known.files ++ files) → ((f : Filed) → Among f files → FiledStands new f)
-        → TicketFits lines tells new.slots (known.files ++ files) last made ticket → Goal
+        → TicketFits lines (known.files ++ files) last made ticket → Goal
     begins_so files apart filed fits = known_begun plan tells lines asked answered begun old new known step_kept_is (record { session = k; call = made }) (struck_more call) (λ n. n ≡ new_number own node)
         (ap (λ (x : World). x.seconds) is ∙ (begun_keeps w own node disk reaction ticket up_then boot calls tickets).0 ∙ with_seconds old call)
         (ap (λ (x : World). x.book) is ∙ (begun_keeps w own node disk reaction ticket up_then boot calls tickets).1 ∙ with_book old call)
@@ -116,14 +115,15 @@ module _ (plan : Plan) (tells : Bool) (lines : List (List ℕ)) (asked : List As
           within = subst (IsWithinCalls new.slots) (sym number_is) within_now;
         })) (λ none. absurd none) m)
         (λ one t m s. ⊎_elim
-        (λ same. subst (λ (b : BegunCall). TicketFits lines tells new.slots (known.files ++ files) b b.call t) same
-        (fits_still lines tells new.slots new.slots (known.files ++ files) (known.files ++ files) (λ f inside. inside) last made ticket t (grew_not new.slots)
+        (λ same. subst (λ (b : BegunCall). TicketFits lines (known.files ++ files) b b.call t) same
+        (fits_still lines (known.files ++ files) (known.files ++ files) (λ f inside. inside) last made ticket t
         (stands_now t (subst (λ n. StandsAs new.slots n t) number_is (subst (λ (b : BegunCall). StandsAs new.slots b.ticket t) (sym same) s))) fits))
         (λ none. absurd none) m)
+        (λ n same. subst (IsWithinCalls new.slots) (sym same) within_now)
 
     -- nothing is filed
-    pub begins_empty : TicketFits lines tells new.slots known.files last made ticket → Goal
-    begins_empty fits = begins_so [] (subst AreApart (sym (no_more known.files)) known.apart) (λ f m. absurd m) (subst (λ files. TicketFits lines tells new.slots files last made ticket) (sym (no_more known.files)) fits)
+    pub begins_empty : TicketFits lines known.files last made ticket → Goal
+    begins_empty fits = begins_so [] (subst AreApart (sym (no_more known.files)) known.apart) (λ f m. absurd m) (subst (λ files. TicketFits lines files last made ticket) (sym (no_more known.files)) fits)
       where
         no_more : (files : List Filed) → files ++ [] ≡ files
         no_more [] = refl

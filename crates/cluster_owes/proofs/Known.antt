@@ -1,12 +1,14 @@
 -- What is known of a cluster after so many steps: the book, the tickets, the messages that were filed and the answers that were given.
-use Rattle.std.proofs.Common.{◌≡◌, ◌≢◌, ◌⊎◌, inl, inr, ⊎_elim, ℕ, Bool, true, List, [], ◌∷◌, ◌++◌, length, map, take, AllPairs, Some, None, refl, sym, ◌∙◌, subst}
+use Rattle.std.proofs.Common.{◌≡◌, ◌≢◌, ◌⊎◌, inl, inr, ⊎_elim, ℕ, Bool, true, List, [], ◌∷◌, ◌++◌, length, map, take, AllPairs, Some, refl, sym, ◌∙◌, subst, arith}
 use Rattle.std.specs.Prelude.{⊤}
 use Rattle.sha2.specs.Sha256.{sha256}
-use Rattle.mail_model.specs.Identity.{Id}
+use Rattle.mail_model.specs.Identity.{Id, Stamp}
+use Rattle.mail_model.specs.Identity.Key.{Message}
+use Rattle.mail_model.specs.Identity.Value.{Here}
 use Rattle.mail_model.specs.Mail.{IsStored}
 use Rattle.mail_model.specs.Plan.{Plan}
 use Rattle.mail_model.specs.PopReplies.{Item}
-use Rattle.mail_model.specs.Record.Record.{Octets}
+use Rattle.mail_model.specs.Record.Record.{Octets, Stated}
 use Rattle.mail_model.specs.Stored.{Ack, HaveOtherIds, IsOnClock, opened, kind_at}
 use Rattle.mail_model.specs.Tape.Protocol.{Smtp}
 use Rattle.mail_model.specs.Told.{Mail}
@@ -19,14 +21,13 @@ use Rattle.session_model.specs.Calls.Answer.{Listed, Part}
 use Rattle.session_model.specs.Logs.{Asked, Answered}
 use Rattle.session_model.specs.Books.{AmongAnswers, AreAcksOf}
 use Rattle.session_model.specs.SoundMails.{IsSoundMail}
-use Rattle.cluster_model.specs.Reads.{Found}
 use Rattle.cluster_model.specs.Cluster.{NodeFiling, Want, Ticket, Slot, slot_at}
 use Rattle.cluster_model.specs.Cluster.AskedOfNodes.{Copies}
 use Rattle.cluster_model.specs.Claims.{IsIdDrawn}
 use Rattle.cluster_model.specs.Parts.{IsHeldSomewhere, Sound}
 use Rattle.cluster_model.specs.World.{World, letters_of, cluster_of}
 use Rattle.cluster_model.specs.WorldLaws.{InPlan}
-use Rattle.cluster_owes.specs.Seen.{found_told}
+use Rattle.cluster_model.specs.Deeds.{slot_up}
 use Rattle.cluster_owes.specs.Outcomes.{BegunCall}
 use Rattle.cluster_owes.proofs.Masks.{IsMask}
 use Rattle.cluster_owes.proofs.Standing.{StandsAs, IsWithinCalls, SameWant, SameWants, SameCall}
@@ -52,6 +53,15 @@ pub record IsOnDisk (slots : List Slot) (id : Id) (octets : List ℕ) : Type 0 w
   pub here : slot_at slots n ≡ Some slot
   pub inside : Among (Octets id octets) slot.disk
 
+-- some disk has a record that says that the user's copy of the message is here
+pub record IsOwned (slots : List Slot) (user : List ℕ) (id : Id) : Type 0 where
+  pub n : ℕ
+  pub slot : Slot
+  pub here : slot_at slots n ≡ Some slot
+  pub stamp : Stamp
+  pub targets : ℕ
+  pub inside : Among (Stated (Message user id) (record { value = Here; stamp = stamp; targets = targets })) slot.disk
+
 abbrev pub greatest : ℕ
 greatest = 18446744073709551615
 
@@ -59,7 +69,7 @@ greatest = 18446744073709551615
 abbrev pub OctetsStand : Bool → List Slot → Call → Answer → Type 0
 OctetsStand tells slots (Login user given) (Listed items) =
     AllPairs (λ (a b : Id). a ≢ b) (map (λ (item : Item). item.id) items)
-    × ((item : Item) → Among item items → (octets : List ℕ) × IsOnDisk slots item.id octets × (item.size ≡ length octets))
+    × ((item : Item) → Among item items → ((octets : List ℕ) × IsOnDisk slots item.id octets × (item.size ≡ length octets)) × IsOwned slots user item.id)
 OctetsStand tells slots (Fetch user id) (Part octets) = tells ≡ true → (all : List ℕ) × IsOnDisk slots id all × (octets ≡ take greatest all)
 OctetsStand tells slots call answer = ⊤
 
@@ -73,17 +83,12 @@ DeliveryFits lines files one mail wants = (wants ≡ [])
     ⊎ ((f : Filed) × (want : Want) × Among f files × (f.ticket ≡ one.ticket) × (f.mail ≡ mail) × (wants ≡ want ∷ []) × (want.asked ≡ Copies (filing_of f)) × IsMask want.confirmed
     × (kind_at (opened lines) one.session ≡ Some (Smtp, f.id.node)) × IsOnClock lines f.seconds)
 
--- a call that reads failed at once, or has what it found
-abbrev pub ReadingFits : Bool → List Slot → Call → Ticket → Type 0
-ReadingFits tells slots call ticket = ((ticket.found ≡ None) × (ticket.wants ≡ []))
-    ⊎ ((found : Found) × (ticket.found ≡ Some found) × AnswerStands tells slots call (found_told found))
-
--- the ticket is that of the call
-abbrev pub TicketFits : List (List ℕ) → Bool → List Slot → List Filed → BegunCall → Call → Ticket → Type 0
-TicketFits lines tells slots files one (Deliver mail) ticket = (ticket.found ≡ None) × DeliveryFits lines files one mail ticket.wants
-TicketFits lines tells slots files one (Strike user ids) ticket = (ticket.found ≡ None) × ((ticket.wants ≡ []) ⊎ AreDeletions user ids ticket.wants)
-TicketFits lines tells slots files one (Login user given) ticket = ReadingFits tells slots (Login user given) ticket
-TicketFits lines tells slots files one (Fetch user id) ticket = ReadingFits tells slots (Fetch user id) ticket
+-- The ticket is that of the call. One of a call that reads has failed at once.
+abbrev pub TicketFits : List (List ℕ) → List Filed → BegunCall → Call → Ticket → Type 0
+TicketFits lines files one (Deliver mail) ticket = DeliveryFits lines files one mail ticket.wants
+TicketFits lines files one (Strike user ids) ticket = (ticket.wants ≡ []) ⊎ AreDeletions user ids ticket.wants
+TicketFits lines files one (Login user given) ticket = ticket.wants ≡ []
+TicketFits lines files one (Fetch user id) ticket = ticket.wants ≡ []
 
 -- no two of them have one id
 abbrev pub AreApart : List Filed → Type 0
@@ -128,7 +133,9 @@ pub record Known (plan : Plan) (tells : Bool) (lines : List (List ℕ)) (asked :
   pub apart : AreApart files
   pub filed : (f : Filed) → Among f files → FiledStands w f
   pub calls : (one : BegunCall) → Among one begun → BegunStands w one
-  pub tickets : (one : BegunCall) (ticket : Ticket) → Among one begun → StandsAs w.slots one.ticket ticket → TicketFits lines tells w.slots files one one.call ticket
+  pub tickets : (one : BegunCall) (ticket : Ticket) → Among one begun → StandsAs w.slots one.ticket ticket → TicketFits lines files one one.call ticket
+  -- no ticket of messages has a number that its node has not drawn
+  pub numbered : (number : Number) (ticket : Ticket) → StandsAs w.slots number ticket → IsWithinCalls w.slots number
   pub acks : (ack : Ack) → Among ack told → AckStands lines w files ack
   pub other_ids : HaveOtherIds told
   pub answers : (one : Answered) → AmongAnswers one answered → AnswerStands tells w.slots one.call one.answer
@@ -142,8 +149,21 @@ on_disk old new grew id octets h = let now = grew.slots h.n h.slot h.here in rec
   inside = subst (Among (Octets id octets)) (sym now.2.is) (among_front (Octets id octets) h.slot.disk now.2.added h.inside);
 }
 
+pub owned_still : (old new : List Slot) → ClusterGrew old new → (user : List ℕ) (id : Id) → IsOwned old user id → IsOwned new user id
+owned_still old new grew user id h = let now = grew.slots h.n h.slot h.here in
+    let one = Stated (Message user id) (record { value = Here; stamp = h.stamp; targets = h.targets }) in
+    record {
+      n = h.n;
+      slot = now.0;
+      here = now.1;
+      stamp = h.stamp;
+      targets = h.targets;
+      inside = subst (Among one) (sym now.2.is) (among_front one h.slot.disk now.2.added h.inside);
+    }
+
 octets_stay : (tells : Bool) (old new : List Slot) → ClusterGrew old new → (call : Call) (answer : Answer) → OctetsStand tells old call answer → OctetsStand tells new call answer
-octets_stay tells old new grew (Login user given) (Listed items) a = (a.0, λ item m. let o = a.1 item m in (o.0, on_disk old new grew item.id o.0 o.1, o.2))
+octets_stay tells old new grew (Login user given) (Listed items) a =
+    (a.0, λ item m. let (o, own) = a.1 item m in ((o.0, on_disk old new grew item.id o.0 o.1, o.2), owned_still old new grew user item.id own))
 octets_stay tells old new grew (Fetch user id) (Part octets) a = λ told. let o = a told in (o.0, on_disk old new grew id o.0 o.1, o.2)
 octets_stay tells old new grew (Deliver mail) answer a = tt
 octets_stay tells old new grew (Strike user ids) answer a = tt
@@ -188,33 +208,24 @@ deletions_same user (id ∷ ids) [] new s a = absurd a
 deletions_same user (id ∷ ids) (old ∷ olds) [] s a = absurd s
 deletions_same user (id ∷ ids) (old ∷ olds) (new ∷ news) s a = (sym s.0.asked ∙ a.0, s.0.mask a.1, deletions_same user ids olds news s.1 a.2)
 
-reading_still : (tells : Bool) (old new : List Slot) (call : Call) (before after : Ticket) → ClusterGrew old new → SameCall before after → ReadingFits tells old call before → ReadingFits tells new call after
-reading_still tells old new call before after grew same fits = ⊎_elim
-    (λ none. inl (sym same.found ∙ none.0, none_same before.wants after.wants same.wants none.1))
-    (λ (found, is, so). inr (found, sym same.found ∙ is, answer_stays tells old new grew call (found_told found) so))
+pub fits_still : (lines : List (List ℕ)) (files others : List Filed) → ((f : Filed) → Among f files → Among f others)
+    → (one : BegunCall) (call : Call) (before after : Ticket) → SameCall before after → TicketFits lines files one call before → TicketFits lines others one call after
+fits_still lines files others within one (Deliver mail) before after same fits = ⊎_elim
+    (λ none. inl (none_same before.wants after.wants same.wants none))
+    (λ (f, want, inside, ticket, mail_is, wants, asked, mask, kind, clock).
+    let now = one_same before.wants after.wants want same.wants wants in
+    inr (f, now.0, within f inside, ticket, mail_is, now.1, sym now.2.asked ∙ asked, now.2.mask mask, kind, clock))
     fits
+fits_still lines files others within one (Strike user ids) before after same fits = ⊎_elim
+    (λ none. inl (none_same before.wants after.wants same.wants none))
+    (λ are. inr (deletions_same user ids before.wants after.wants same.wants are))
+    fits
+fits_still lines files others within one (Login user given) before after same fits = none_same before.wants after.wants same.wants fits
+fits_still lines files others within one (Fetch user id) before after same fits = none_same before.wants after.wants same.wants fits
 
-pub fits_still : (lines : List (List ℕ)) (tells : Bool) (old new : List Slot) (files others : List Filed) → ((f : Filed) → Among f files → Among f others)
-    → (one : BegunCall) (call : Call) (before after : Ticket) → ClusterGrew old new → SameCall before after
-    → TicketFits lines tells old files one call before → TicketFits lines tells new others one call after
-fits_still lines tells old new files others within one (Deliver mail) before after grew same fits = (
-  sym same.found ∙ fits.0,
-  ⊎_elim
-      (λ none. inl (none_same before.wants after.wants same.wants none))
-      (λ (f, want, inside, ticket, mail_is, wants, asked, mask, kind, clock).
-      let now = one_same before.wants after.wants want same.wants wants in
-      inr (f, now.0, within f inside, ticket, mail_is, now.1, sym now.2.asked ∙ asked, now.2.mask mask, kind, clock))
-      fits.1,
-)
-fits_still lines tells old new files others within one (Strike user ids) before after grew same fits = (
-  sym same.found ∙ fits.0,
-  ⊎_elim
-      (λ none. inl (none_same before.wants after.wants same.wants none))
-      (λ are. inr (deletions_same user ids before.wants after.wants same.wants are))
-      fits.1,
-)
-fits_still lines tells old new files others within one (Login user given) before after grew same fits = reading_still tells old new (Login user given) before after grew same fits
-fits_still lines tells old new files others within one (Fetch user id) before after grew same fits = reading_still tells old new (Fetch user id) before after grew same fits
+-- a ticket that stands is of the boot of its node
+pub stands_drawn : (slots : List Slot) (number : Number) (ticket : Ticket) → StandsAs slots number ticket → IsIdDrawn slots (boot_id number)
+stands_drawn slots number ticket s = record { slot = slot_up s.node s.disk; here = s.up; drawn = inr (s.boot, omega arith) }
 
 -- no octets are held after that were not held before
 abbrev pub HoldsNoMore : World → World → Type 0
@@ -228,11 +239,17 @@ module _ (plan : Plan) (tells : Bool) (lines : List (List ℕ)) (asked : List As
   calls_still one m = let was = known.calls one m in
       record { sound = was.sound; drawn = grew.drawn (boot_id one.ticket) was.drawn; within = step.calls one.ticket was.drawn was.within }
 
-  pub tickets_still : (more : List Filed) (one : BegunCall) (ticket : Ticket) → Among one begun → StandsAs new.slots one.ticket ticket → TicketFits lines tells new.slots (known.files ++ more) one one.call ticket
+  pub tickets_still : (more : List Filed) (one : BegunCall) (ticket : Ticket) → Among one begun → StandsAs new.slots one.ticket ticket → TicketFits lines (known.files ++ more) one one.call ticket
   tickets_still more one ticket m s = ⊎_elim
-      (λ (before, stood, same). fits_still lines tells old.slots new.slots known.files (known.files ++ more) (λ f inside. among_front f known.files more inside) one one.call before ticket grew same (known.tickets one before m stood))
+      (λ (before, stood, same). fits_still lines known.files (known.files ++ more) (λ f inside. among_front f known.files more inside) one one.call before ticket same (known.tickets one before m stood))
       (λ is. absurd (fresh one.ticket (known.calls one m).within is))
       (step.came one.ticket ticket s)
+
+  pub numbered_still : ((number : Number) → New number → IsWithinCalls new.slots number) → (number : Number) (ticket : Ticket) → StandsAs new.slots number ticket → IsWithinCalls new.slots number
+  numbered_still begins number ticket s = ⊎_elim
+      (λ (before, stood, same). step.calls number (stands_drawn old.slots number before stood) (known.numbered number before stood))
+      (λ is. begins number is)
+      (step.came number ticket s)
 
   pub filed_still : (f : Filed) → Among f known.files
       → ((octets : List ℕ) → IsHeldSomewhere new.slots (letters_of new.flying) f.id octets → IsStored f.mail f.id f.seconds octets) → FiledStands new f

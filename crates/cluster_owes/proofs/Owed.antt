@@ -3,28 +3,32 @@ use Rattle.std.proofs.Common.{inl, inr, ⊎_elim, ℕ, List, [], ◌∷◌, ◌+
 use Rattle.object_model.specs.Lists.{Among}
 use Rattle.object_model.specs.Letters.{Number}
 use Rattle.session_model.specs.Calls.{Call, Answer}
+use Rattle.joint_world.specs.World.{mail_world_of}
 use Rattle.session_model.specs.Logs.{Answered}
 use Rattle.session_model.specs.Books.{AmongAnswers}
 use Rattle.cluster_owes.specs.Outcomes.{Outcome, asked_by_outcome, answered_by_outcome}
 use Rattle.cluster_owes.specs.Outcomes.Outcome.{Answers}
 use Rattle.cluster_owes.specs.Laws.{ClusterOwes, AnswersFit}
 use Rattle.cluster_owes.proofs.Chain.{known_last}
-use Rattle.cluster_owes.proofs.Owing.{one_content, all_standing, owes_stored, owes_deletions, owes_parts, owes_book}
+use Rattle.cluster_owes.proofs.Owing.{one_content, all_standing, owes_stored, owes_deletions, owes_listings, owes_parts, owes_book}
 
 pub cluster_owes : ClusterOwes
-cluster_owes plan tells map lines stores disks outcomes last few makes sessions held are counted =
-    let known = known_last plan tells lines map outcomes last few sessions makes in
+cluster_owes plan tells map lines stores disks outcomes last some few managers makes sessions held are counted =
+    let all = known_last plan tells lines map some few managers outcomes last sessions makes in
+    let w = mail_world_of last in
+    let known = all.1.known in
     let asked = flat_map asked_by_outcome outcomes in
     let answered = flat_map answered_by_outcome outcomes in
     record {
       holds = are;
-      one_content = one_content plan tells lines asked answered known.0 last known.1 stores disks held are counted;
-      acks = known.1.told;
-      confirmers = (all_standing plan tells lines asked answered known.0 last known.1 stores disks held are counted).confirmers;
-      stored = owes_stored plan tells lines asked answered known.0 last known.1 stores disks held are counted;
-      deletions = owes_deletions plan tells lines asked answered known.0 last known.1 stores disks held are counted;
-      parts = owes_parts plan tells lines asked answered known.0 last known.1 stores disks held are counted;
-      books = owes_book plan tells lines asked answered known.0 last known.1 stores disks held are counted;
+      one_content = one_content plan tells lines asked answered all.0 w known stores disks held are counted;
+      acks = known.told;
+      confirmers = (all_standing plan tells lines asked answered all.0 w known stores disks held are counted).confirmers;
+      stored = owes_stored plan tells lines asked answered all.0 w known stores disks held are counted;
+      deletions = owes_deletions plan tells lines asked answered all.0 w known stores disks held are counted;
+      listings = owes_listings plan tells lines asked answered all.0 w known stores disks held are counted;
+      parts = owes_parts plan tells lines asked answered all.0 w known stores disks held are counted;
+      books = owes_book plan tells lines asked answered all.0 w known stores disks held are counted;
     }
 
 -- an answer of one of the steps is one of all
@@ -46,6 +50,6 @@ answer_among (outcome ∷ outcomes) k asked ticket given m = ⊎_elim
     m
 
 pub answers_fit : AnswersFit
-answers_fit plan tells map lines outcomes last few makes sessions k asked ticket given m =
-    let known = known_last plan tells lines map outcomes last few sessions makes in
-    (known.1.answers (record { session = k; call = asked; answer = given }) (answer_among outcomes k asked ticket given m)).0
+answers_fit plan tells map lines outcomes last some few managers makes sessions k asked ticket given m =
+    let all = known_last plan tells lines map some few managers outcomes last sessions makes in
+    (all.1.known.answers (record { session = k; call = asked; answer = given }) (answer_among outcomes k asked ticket given m)).0

@@ -5,7 +5,7 @@ use Rattle.std.proofs.lemmas.List.Elements.{All-nil, All-cons, All-head, All-tai
 use Rattle.sha2.specs.Sha256.{sha256}
 use Rattle.mail_model.specs.Identity.{Id}
 use Rattle.mail_model.specs.Identity.Key.{Message}
-use Rattle.mail_model.specs.Identity.Value.{Gone}
+use Rattle.mail_model.specs.Identity.Value.{Here, Gone}
 use Rattle.mail_model.specs.Grammar.{IsRecord}
 use Rattle.mail_model.specs.Mail.{IsStored}
 use Rattle.mail_model.specs.Plan.{Plan}
@@ -23,9 +23,9 @@ use Rattle.session_model.specs.Calls.Call.{Login, Fetch}
 use Rattle.session_model.specs.Calls.Answer.{Listed, Part}
 use Rattle.session_model.specs.Logs.{Asked, Answered}
 use Rattle.session_model.specs.Books.{IsAsBooked, AcknowledgedStand}
-use Rattle.session_model.specs.Copies.{AreDisks, OnNode, OnEnough, KeepsCopy, EachStands, OneContent}
+use Rattle.session_model.specs.Copies.{AreDisks, OnNode, OnEnough, KeepsCopy, EachStands, HasRecordOf, OneContent}
 use Rattle.session_model.specs.Facts.{IsGoneIn}
-use Rattle.session_model.specs.Owes.{OwesDeletions, OwesStored, OwesParts, OwesBook}
+use Rattle.session_model.specs.Owes.{OwesDeletions, OwesStored, OwesListings, OwesParts, OwesBook}
 use Rattle.cluster_model.specs.Cluster.{Slot, slot_at, pending_of}
 use Rattle.cluster_model.specs.Laws.{KeepsCopyOf}
 use Rattle.cluster_model.specs.Parts.{IsHeldSomewhere, Sound}
@@ -33,11 +33,11 @@ use Rattle.cluster_model.specs.World.{World, letters_of, cluster_of}
 use Rattle.cluster_model.specs.WorldLaws.{InPlan}
 use Rattle.cluster_model.proofs.Kept.{all_kept}
 use Rattle.cluster_model.proofs.Listings.{each_of}
-use Rattle.cluster_model.proofs.Promises.{among_of, acknowledged_kept}
+use Rattle.cluster_model.proofs.Promises.{member_of, among_of, acknowledged_kept}
 use Rattle.cluster_owes.specs.Outcomes.{BegunCall}
 use Rattle.cluster_owes.specs.Held.{IsHeld, AreHeld, AreCounted, filed_on}
 use Rattle.cluster_owes.proofs.Settled.{IsSettled, settle, held_at, disk_at}
-use Rattle.cluster_owes.proofs.Known.{IsOnDisk, greatest, AckStands, Known}
+use Rattle.cluster_owes.proofs.Known.{IsOnDisk, IsOwned, greatest, AckStands, Known}
 use Rattle.cluster_owes.proofs.Lookups.{got_among, in_grammar, filed_found, holds_among, acked_among, struck_among, dropped_among, struck_call, dropped_answer, taken_all, closed_is}
 use Rattle.cluster_owes.proofs.Enough.{SoOn, on_enough, gone_on, all_gone}
 use Rattle.cluster_owes.proofs.Books.{masked_at}
@@ -79,22 +79,22 @@ module _ (plan : Plan) (tells : Bool) (lines : List (List ℕ)) (asked : List As
       (records.0, ap (slice_get disks) (one_less m) ∙ records.1, ap (λ (s : Slot). s.disk) (same_some (slot_at w.slots (suc m)) slot there.0 at there.1) ∙ there.2)
 
   -- a store holds all that its node's disk did
-  on_store : (id : Id) (octets : List ℕ) → IsOnDisk last.slots id octets → (m : ℕ) × (records : List Record) × (slice_get disks m ≡ Some records) × Among (Octets id octets) records
-  on_store id octets h = by h.n h.here
+  on_store : (one : Record) (n : ℕ) (slot : Slot) → slot_at last.slots n ≡ Some slot → Among one slot.disk → (m : ℕ) × (records : List Record) × (slice_get disks m ≡ Some records) × Among one records
+  on_store one zero slot here inside = absurd (cc here)
+  on_store one (suc m) slot here inside =
+      let records = disk_at last.slots disks held m slot here in
+      let there = held_at last.slots disks held m records.0 records.1 in
+      let same : there.0 ≡ slot = same_some (slice_get last.slots m) there.0 slot there.1 here in
+      (m, records.0, records.1, kept records.0 (subst (λ (s : Slot). IsHeld s records.0) same there.2))
     where
-      kept : (records : List Record) → IsHeld h.slot records → Among (Octets id octets) records
+      kept : (records : List Record) → IsHeld slot records → Among one records
       kept records is = ⊎_elim
-          (λ same. subst (Among (Octets id octets)) (sym same) h.inside)
-          (λ all. subst (Among (Octets id octets)) (sym all) (among_front (Octets id octets) h.slot.disk (pending_of h.slot.life) h.inside))
+          (λ same. subst (Among one) (sym same) inside)
+          (λ all. subst (Among one) (sym all) (among_front one slot.disk (pending_of slot.life) inside))
           is
 
-      by : (n : ℕ) → slot_at last.slots n ≡ Some h.slot → (m : ℕ) × (records : List Record) × (slice_get disks m ≡ Some records) × Among (Octets id octets) records
-      by zero at = absurd (cc at)
-      by (suc m) at =
-          let records = disk_at last.slots disks held m h.slot at in
-          let slot = held_at last.slots disks held m records.0 records.1 in
-          let same : slot.0 ≡ h.slot = same_some (slice_get last.slots m) slot.0 h.slot slot.1 at in
-          (m, records.0, records.1, kept records.0 (subst (λ (s : Slot). IsHeld s records.0) same slot.2))
+  octets_stored : (id : Id) (octets : List ℕ) → IsOnDisk last.slots id octets → (m : ℕ) × (records : List Record) × (slice_get disks m ≡ Some records) × Among (Octets id octets) records
+  octets_stored id octets h = on_store (Octets id octets) h.n h.slot h.here h.inside
 
   -- octets in stores are held
   store_held : (m : ℕ) (records : List Record) (id : Id) (octets : List ℕ) → slice_get disks m ≡ Some records → Among (Octets id octets) records → IsHeldSomewhere w.slots (letters_of w.flying) id octets
@@ -257,15 +257,26 @@ module _ (plan : Plan) (tells : Bool) (lines : List (List ℕ)) (asked : List As
         (nodes_in entry.0 64, gone_on plan disks w sound in_plan at_disk user id entry.0 (subst (Among (Dropped user id entry.0)) (sym settled.book) entry.1));
     once = λ k user given items m. (known.answers (record { session = k; call = Login user given; answer = Listed items }) m).1.0;
     named = λ k user given items m i item e.
-        let o = (known.answers (record { session = k; call = Login user given; answer = Listed items }) m).1.1 item (got_among items i item e) in
-        let there = on_store item.id o.0 o.1 in
+        let o = ((known.answers (record { session = k; call = Login user given; answer = Listed items }) m).1.1 item (got_among items i item e)).0 in
+        let there = octets_stored item.id o.0 o.1 in
         each_of IsRecord (Octets item.id o.0) there.1 (in_grammar 1 stores disks are there.0 there.1 there.2) there.3;
   }
+
+  -- each message of a listing is one of its user
+  owned : (user : List ℕ) (id : Id) → IsOwned last.slots user id → HasRecordOf disks user id
+  owned user id h =
+      let one = Stated (Message user id) (record { value = Here; stamp = h.stamp; targets = h.targets }) in
+      let there = on_store one h.n h.slot h.here h.inside in
+      record { n = there.0; records = there.1; at = there.2; stamp = h.stamp; targets = h.targets; says = member_of one there.1 there.3 }
+
+  pub owes_listings : OwesListings disks answered
+  owes_listings k user given items m i item e =
+      owned user item.id ((known.answers (record { session = k; call = Login user given; answer = Listed items }) m).1.1 item (got_among items i item e)).1
 
   -- what is filed of a message
   filed_is : (id : Id) (octets : List ℕ) → IsOnDisk last.slots id octets → filed_on disks id ≡ Some octets
   filed_is id octets h =
-      let there = on_store id octets h in
+      let there = octets_stored id octets h in
       let first = filed_found disks there.0 there.1 id octets there.2 there.3 in
       first.3 ∙ ap Some (sound.contents.one id first.0 octets (store_held first.1 first.2 id first.0 first.4 first.5) (store_held there.0 there.1 id octets there.2 there.3))
 
@@ -277,11 +288,11 @@ module _ (plan : Plan) (tells : Bool) (lines : List (List ℕ)) (asked : List As
   pub owes_parts : tells ≡ true → OwesParts (filed_on disks) answered
   owes_parts told = record {
     sizes = λ k user given items m i item e.
-        let o = (known.answers (record { session = k; call = Login user given; answer = Listed items }) m).1.1 item (got_among items i item e) in
+        let o = ((known.answers (record { session = k; call = Login user given; answer = Listed items }) m).1.1 item (got_among items i item e)).0 in
         (o.0, filed_is item.id o.0 o.1, o.2);
     parts = λ k user id part m.
         let o = (known.answers (record { session = k; call = Fetch user id; answer = Part part }) m).1 told in
-        let there = on_store id o.0 o.1 in
+        let there = octets_stored id o.0 o.1 in
         let few : length o.0 < 2 ^ 64 = counted told there.0 there.1 id o.0 there.2 there.3 in
         let same : part ≡ o.0 = o.2 ∙ taken_all greatest o.0 (omega (arith, few)) in (
           filed_is id o.0 o.1 ∙ ap Some (sym same),

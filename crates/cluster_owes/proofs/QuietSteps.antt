@@ -23,7 +23,7 @@ use Rattle.cluster_owes.specs.Outcomes.{IsIdleStep, BegunCall}
 use Rattle.cluster_owes.proofs.WorldSteps.{OtherGoes, other_goes}
 use Rattle.cluster_owes.proofs.Growing.{ClusterGrew, step_grew}
 use Rattle.cluster_owes.proofs.Books.{IsBooked, AreMasked, masked_both, masked_none, book_lives, book_quiet}
-use Rattle.cluster_owes.proofs.Known.{Filed, AnswerStands, TicketFits, AckStands, Known, HoldsNoMore, calls_still, tickets_still, filed_still, acks_still, answers_still}
+use Rattle.cluster_owes.proofs.Known.{Filed, AnswerStands, TicketFits, AckStands, Known, HoldsNoMore, calls_still, tickets_still, numbered_still, filed_still, acks_still, answers_still}
 
 -- what a step keeps in any case
 pub record StepKept (plan : Plan) (old new : World) : Type 0 where
@@ -56,8 +56,9 @@ known_quiet plan tells lines asked answered begun old new known kept other no_mo
   apart = known.apart;
   filed = λ f m. filed_still plan tells lines asked answered begun old new known kept.grew (λ n. ⊥) other.goes.tickets (λ n w none. none) f m (λ octets h. (known.filed f m).held octets (no_more f.id octets h));
   calls = λ one m. calls_still plan tells lines asked answered begun old new known kept.grew (λ n. ⊥) other.goes.tickets (λ n w none. none) one m;
-  tickets = λ one ticket m s. subst (λ files. TicketFits lines tells new.slots files one one.call ticket) (same_files known.files)
+  tickets = λ one ticket m s. subst (λ files. TicketFits lines files one one.call ticket) (same_files known.files)
       (tickets_still plan tells lines asked answered begun old new known kept.grew (λ n. ⊥) other.goes.tickets (λ n w none. none) [] one ticket m s);
+  numbered = λ number ticket s. numbered_still plan tells lines asked answered begun old new known kept.grew (λ n. ⊥) other.goes.tickets (λ n w none. none) (λ n none. absurd none) number ticket s;
   acks = λ ack m. subst (λ files. AckStands lines new files ack) (same_files known.files)
       (acks_still plan tells lines asked answered begun old new known kept.grew (λ n. ⊥) other.goes.tickets (λ n w none. none) [] ack m);
   other_ids = known.other_ids;
@@ -69,10 +70,10 @@ same_holds : (old new : World) → new ≡ old → HoldsNoMore old new
 same_holds old new same id octets h = subst (λ (w : World). IsHeldSomewhere w.slots (letters_of w.flying) id octets) same h
 
 other_brings : (old : World) (step : Step) (said : Said) → IsIdleStep step (Says said) → (id : Id) (octets : List ℕ) → MayBring old step id octets → ⊥
-other_brings old (Begin node (Leave user)) said other id octets m = m
+other_brings old (Begin node (Leave user login manager)) said other id octets m = m
 other_brings old (Begin node (DeliverCall mail)) said other id octets m = other
 other_brings old (Begin node (LoginCall user proof)) said other id octets m = other
-other_brings old (Begin node (FetchCall user one from most)) said other id octets m = other
+other_brings old (Begin node (FetchCall user one from most holders)) said other id octets m = other
 other_brings old (Begin node (StrikeCall user items)) said other id octets m = other
 other_brings old (AskFor ticket) said other id octets m = m
 other_brings old (GiveUp ticket) said other id octets m = m
@@ -87,10 +88,10 @@ other_brings old (Lose node) said other id octets m = m
 other_brings old (Tick seconds) said other id octets m = m
 
 short_brings : (old : World) (step : Step) (n : ℕ) → IsIdleStep step (NoMemory (Some n)) → (id : Id) (octets : List ℕ) → MayBring old step id octets → ⊥
-short_brings old (Begin node (Leave user)) n other id octets m = m
+short_brings old (Begin node (Leave user login manager)) n other id octets m = m
 short_brings old (Begin node (DeliverCall mail)) n other id octets m = other
 short_brings old (Begin node (LoginCall user proof)) n other id octets m = other
-short_brings old (Begin node (FetchCall user one from most)) n other id octets m = other
+short_brings old (Begin node (FetchCall user one from most holders)) n other id octets m = other
 short_brings old (Begin node (StrikeCall user items)) n other id octets m = other
 short_brings old (AskFor ticket) n other id octets m = m
 short_brings old (GiveUp ticket) n other id octets m = m
@@ -139,6 +140,7 @@ known_ticked plan tells lines asked answered begun old new seconds clock made kn
       record { drawn = was.drawn; stored = was.stored; held = was.held; ticket_drawn = was.ticket_drawn; within = was.within };
   calls = λ one m. let was = known.calls one m in record { sound = was.sound; drawn = was.drawn; within = was.within };
   tickets = known.tickets;
+  numbered = known.numbered;
   acks = λ ack m. let was = known.acks ack m in record {
     file = was.file;
     inside = was.inside;
@@ -177,6 +179,7 @@ known_answered plan tells lines asked answered begun w k one answer no_drop no_a
   filed = known.filed;
   calls = known.calls;
   tickets = known.tickets;
+  numbered = known.numbered;
   acks = known.acks;
   other_ids = known.other_ids;
   answers = λ other m. ⊎_elim

@@ -46,7 +46,6 @@ SameWants olds news = ⊥
 
 -- the ticket is of the same call
 pub record SameCall (old new : Ticket) : Type 0 where
-  pub found : old.found ≡ new.found
   pub wants : SameWants old.wants new.wants
 
 same_wants : (wants : List Want) → SameWants wants wants
@@ -54,7 +53,7 @@ same_wants [] = tt
 same_wants (want ∷ wants) = (record { asked = refl; mask = λ m. m; kept = λ m h. h }, same_wants wants)
 
 pub same_call : (ticket : Ticket) → SameCall ticket ticket
-same_call ticket = record { found = refl; wants = same_wants ticket.wants }
+same_call ticket = record { wants = same_wants ticket.wants }
 
 wants_through : (a b c : List Want) → SameWants a b → SameWants b c → SameWants a c
 wants_through [] [] [] p q = tt
@@ -65,7 +64,7 @@ wants_through (x ∷ a) (y ∷ b) [] p q = absurd q
 wants_through (x ∷ a) (y ∷ b) (z ∷ c) p q = (record { asked = p.0.asked ∙ q.0.asked; mask = λ m. q.0.mask (p.0.mask m); kept = λ m h. q.0.kept m (p.0.kept m h) }, wants_through a b c p.1 q.1)
 
 pub call_through : (a b c : Ticket) → SameCall a b → SameCall b c → SameCall a c
-call_through a b c p q = record { found = p.found ∙ q.found; wants = wants_through a.wants b.wants c.wants p.wants q.wants }
+call_through a b c p q = record { wants = wants_through a.wants b.wants c.wants p.wants q.wants }
 
 wants_map : (f : Want → Want) → ((want : Want) → SameWant want (f want)) → (wants : List Want) → SameWants wants (map f wants)
 wants_map f each [] = tt
@@ -97,10 +96,10 @@ failed_same at want = by (has want.waiting at)
     by false = record { asked = refl; mask = λ m. m; kept = λ m h. h }
 
 pub told_call : (body : Body) (from : ℕ) (ticket : Ticket) → SameCall ticket (told_ticket body from ticket)
-told_call body from ticket = record { found = refl; wants = wants_map (told_want body from) (told_same body from) ticket.wants }
+told_call body from ticket = record { wants = wants_map (told_want body from) (told_same body from) ticket.wants }
 
 failed_call : (kind : MishapKind) (at : ℕ) (ticket : Ticket) → SameCall ticket (record ticket { wants = map (failed_want at) ticket.wants; mishaps = counted kind ticket.mishaps })
-failed_call kind at ticket = record { found = refl; wants = wants_map (failed_want at) (failed_same at) ticket.wants }
+failed_call kind at ticket = record { wants = wants_map (failed_want at) (failed_same at) ticket.wants }
 
 -- What a node's tickets come from: those that stood before, or `New`.
 pub record NodeGoes (node next : Node) (New : ℕ → Ticket → Type 0) : Type 0 where

@@ -1,5 +1,5 @@
 -- What a step of which no session hears does to tickets, clock and book.
-use Rattle.std.proofs.Common.{◌≡◌, ◌⊎◌, inl, ⊎_elim, ◌≤◌, ◌+◌, ℕ, Bool, List, [], ◌∷◌, ◌++◌, Option, Some, None, refl, sym, ap, ◌∙◌, subst, arith, le_refl}
+use Rattle.std.proofs.Common.{◌≡◌, ◌⊎◌, inl, inr, ⊎_elim, ◌≤◌, ◌+◌, ℕ, Bool, false, List, [], ◌∷◌, ◌++◌, Option, Some, None, refl, sym, ap, ◌∙◌, subst, arith, le_refl}
 use Rattle.std.specs.Ordering.{nat_cmp}
 use Rattle.std.specs.FinMap as fin
 use Rattle.mail_model.specs.Identity.{Id, Key}
@@ -8,7 +8,7 @@ use Rattle.mail_model.specs.Plan.{Plan}
 use Rattle.mail_model.specs.Record.{Record}
 use Rattle.mail_model.specs.Book.{BookEntry, acked_in, struck_in, dropped_in}
 use Rattle.mail_model.specs.Book.BookEntry.{WentDown, CameUp, WasLost}
-use Rattle.object_model.specs.Letters.{Number, Body}
+use Rattle.object_model.specs.Letters.{Number, Body, Letter}
 use Rattle.object_model.specs.Mishaps.MishapKind.{Dropped, Stale as StaleKind, Down as DownKind, Disk}
 use Rattle.cluster_model.specs.Cluster.{Ticket, Node, Life, Slot, slot_at, with_slot}
 use Rattle.cluster_model.specs.Cluster.Life.{Up, Down, Lost}
@@ -19,14 +19,15 @@ use Rattle.cluster_model.specs.Forms.{FormsEpoch}
 use Rattle.cluster_model.specs.Thrown.{with_stamps}
 use Rattle.cluster_model.specs.Starts.{StartsNode}
 use Rattle.cluster_model.specs.Deeds.{slot_up, hear}
-use Rattle.cluster_model.specs.Room.{has_room, keys_pushed}
-use Rattle.cluster_model.specs.World.{World, cluster_of, flies_on}
+use Rattle.cluster_model.specs.Room.{Flight, has_room, keys_pushed}
+use Rattle.cluster_model.specs.World.{World, cluster_of, with_letter, flies_on}
 use Rattle.cluster_model.specs.Steps.{NodeCall, Step, Said, StepOutcome}
 use Rattle.cluster_model.specs.Steps.NodeCall.{Deliver, Login, Fetch, Strike, Leave}
 use Rattle.cluster_model.specs.Steps.Step.{Begin, AskFor, GiveUp, Post, DropLetter, PushTo, Widen, Form, Crash, Start, Lose, Tick}
 use Rattle.cluster_model.specs.Steps.StepOutcome.{Says, Refused, NoMemory}
-use Rattle.cluster_model.specs.Makes.{IsUp, after, IsFiled, cut_world, BeginsCall, AnswersAsk, Posts, Pushes, Widens, FormsAt, StartsUp, NodeFalls, LosesNode, RunsShort, DoesStep, MakesStep}
-use Rattle.cluster_model.specs.Makes.BeginsCall.{FailsAtOnce, Goes, FailsInIt, Reads, FailsReading, Leaves}
+use Rattle.cluster_model.specs.Makes.{IsUp, after, IsFiled, cut_world, BeginsCall, AnswersAsk, IsGivenUp, Posts, Pushes, Widens, FormsAt, StartsUp, NodeFalls, LosesNode, SendsReading, GoesOnReading, BeginsRead, PostsRead, RunsShort, DoesStep, MakesStep}
+use Rattle.cluster_model.specs.Makes.BeginsCall.{FailsAtOnce, Goes, FailsInIt}
+use Rattle.cluster_model.specs.Makes.BeginsRead.{HasNoManager, Draws, FailsReading, Leaves}
 use Rattle.cluster_model.specs.Makes.AnswersAsk.{Waits, Ends}
 use Rattle.cluster_model.specs.Makes.Posts.{NobodyUp, OfOtherEpoch, TooLate, IsHeard, FailsHearing, IsForMaps, FailsForMaps}
 use Rattle.cluster_model.specs.Makes.Pushes.{Sends, FailsPushing}
@@ -155,6 +156,43 @@ posts_go plan old new number keep said (FailsForMaps flies node disk promise up 
     (let k = cut_goes old down flies.letter.to node disk g.front g.pending up g.is in
     record { entries = k.entries; lives = k.lives; goes = record { seconds = k.goes.seconds; book = k.goes.book; tickets = k.goes.tickets } })
 
+-- Calls that read go on: letters alone are put in flight.
+pub record OnlyLetters (old new : World) : Type 0 where
+  pub slots : new.slots ≡ old.slots
+  pub seconds : new.seconds ≡ old.seconds
+  pub book : new.book ≡ old.book
+
+sends_letters : (old new : World) (letters : List Letter) → SendsReading old letters new → OnlyLetters old new
+sends_letters old new [] is = record { slots = ap (λ (w : World). w.slots) is; seconds = ap (λ (w : World). w.seconds) is; book = ap (λ (w : World). w.book) is }
+sends_letters old new (letter ∷ letters) sends = let rest = sends_letters (with_letter old letter) new letters sends.1 in record { slots = rest.slots; seconds = rest.seconds; book = rest.book }
+
+pub goes_letters : (old new : World) → GoesOnReading old new → OnlyLetters old new
+goes_letters old new goes = sends_letters old new goes.letters goes.sends
+
+-- so it is after a world in which these stay
+pub reading_goes : (old mid new : World) → OtherGoes old mid → GoesOnReading mid new → OtherGoes old new
+reading_goes old mid new other goes = let only = goes_letters mid new goes in both_go old mid new other (still_tickets mid.slots new.slots only.slots) only.seconds only.book
+
+-- where letters alone are taken out
+taken_goes : (old new : World) (flying : List Flight) → GoesOnReading (record old { flying = flying }) new → OtherGoes old new
+taken_goes old new flying goes = reading_goes old (record old { flying = flying }) new (slots_go old (record old { flying = flying }) refl refl (still_tickets old.slots old.slots refl)) goes
+
+posts_read_go : (old new : World) (number : ℕ) (keep : Bool) (said : Said) → PostsRead old number keep said new → OtherGoes old new
+posts_read_go old new number keep said (PostsRead.NobodyUp flies body nobody is goes) = taken_goes old new (flies_on old number flies keep) goes
+posts_read_go old new number keep said (PostsRead.OfOtherEpoch flies node disk body up stale is goes) = taken_goes old new (flies_on old number flies keep) goes
+posts_read_go old new number keep said (PostsRead.TooLate flies node disk body up fresh answers is new_world) =
+    subst (λ (w : World). OtherGoes old w) (sym new_world) (slots_go old _ refl refl (still_tickets old.slots old.slots refl))
+posts_read_go old new number keep said (PostsRead.IsHeard flies node disk body up fresh is goes) = reading_goes old heard new
+    (slots_go old heard refl refl (slot_quiet old.slots flies.letter.to node (with_stamps flies.letter.body node) disk disk up (quiet_node node (with_stamps flies.letter.body node) refl refl refl))) goes
+  where
+    heard : World
+    heard = record old { slots = with_slot old.slots flies.letter.to (slot_up (with_stamps flies.letter.body node) disk); flying = flies_on old number flies keep }
+posts_read_go old new number keep said (PostsRead.FailsForReads flies node disk body up fresh is goes) =
+    let down = cut_world old flies.letter.to disk [] [] in
+    let k = cut_goes old down flies.letter.to node disk [] [] up refl in
+    reading_goes old (record down { flying = flies_on old number flies keep }) new
+    (record { entries = k.entries; lives = k.lives; goes = record { seconds = k.goes.seconds; book = k.goes.book; tickets = k.goes.tickets } }) goes
+
 -- a node starts
 module _ (old : World) (n : ℕ) (disk pending : List Record) (node : Node) (records : List Record) (here : slot_at old.slots n ≡ Some (record { life = Down pending; disk = disk }))
     (rises : boot_of disk ≤ boot_of (disk ++ pending)) (starts : StartsNode n disk pending node records) where
@@ -216,20 +254,31 @@ module _ (plan : Plan) (tells : Bool) (old new : World) (sound : Sound plan.conf
   loses_go n said l = subst (λ (w : World). OtherGoes old w) (sym l.new_world)
       (life_goes old n l.slot (record { life = Lost; disk = l.slot.disk ++ l.kept }) (WasLost n) l.here (λ node e. cc e) (record { acked = refl; struck = refl; dropped = refl }))
 
-  leaves_go : (user : List ℕ) (node : ℕ) (said : Said) → BeginsCall plan tells old node (Leave user) said new → OtherGoes old new
-  leaves_go user node said (FailsAtOnce own disk kind up of_kind fails is new_world) = absurd (cc of_kind)
-  leaves_go user node said (Goes own disk octets up fails filed is new_world) = absurd filed
-  leaves_go user node said (FailsInIt own disk octets up filed is g) = absurd filed
-  leaves_go user node said (Reads own disk kind what up one goes of_kind finds is new_world) = absurd (cc of_kind)
-  leaves_go user node said (FailsReading own disk other id from most up one goes reads is new_world) = absurd (cc reads)
-  leaves_go user node said (Leaves own disk other up one leaves is new_world) = same_world old new new_world
+  leaves_go : (user : List ℕ) (login : Number) (manager node : ℕ) (said : Said) → BeginsCall plan tells old node (Leave user login manager) said new → OtherGoes old new
+  leaves_go user login manager node said (FailsAtOnce own disk kind up of_kind fails is new_world) = absurd (cc of_kind)
+  leaves_go user login manager node said (Goes own disk octets up fails filed is new_world) = absurd filed
+  leaves_go user login manager node said (FailsInIt own disk octets up filed is g) = absurd filed
+
+  leaves_read : (user : List ℕ) (login : Number) (manager node : ℕ) (said : Said) → BeginsRead plan old node (Leave user login manager) said new → OtherGoes old new
+  leaves_read user login manager node said (HasNoManager own disk other proof up is_call goes is new_world) = absurd (cc is_call)
+  leaves_read user login manager node said (Draws own disk up draws goes is on) = absurd draws
+  leaves_read user login manager node said (FailsReading own disk other id from most holders up is_call reads is new_world) = absurd (cc is_call)
+  leaves_read user login manager node said (Leaves own disk other number at up is_call is on) = reading_goes old old new (same_world old old refl) on
 
   asks_go : (ticket : Number) (said : Said) → IsIdleStep (AskFor ticket) (Says said) → AnswersAsk plan old ticket said new → OtherGoes old new
   asks_go ticket said other (Waits node disk stood up found got wanted e is new_world) = same_world old new new_world
   asks_go ticket said other (Ends node disk stood up found answer e is new_world) = absurd (subst (λ s. IsIdleStep (AskFor ticket) (Says s)) is other)
 
+  gives_up_mail : (ticket : Number) (said : Said) → IsGivenUp old ticket said new → OtherGoes old new
+  gives_up_mail ticket said d = subst (λ (w : World). OtherGoes old w) (sym d.new_world) (node_goes old ticket.node d.node d.disk (end_ticket ticket.seq d.node d.disk) d.up (end_goes ticket.seq d.node d.disk))
+
   pub gives_up_go : (ticket : Number) (said : Said) → DoesStep plan tells old (GiveUp ticket) said new → OtherGoes old new
-  gives_up_go ticket said d = subst (λ (w : World). OtherGoes old w) (sym d.new_world) (node_goes old ticket.node d.node d.disk (end_ticket ticket.seq d.node d.disk) d.up (end_goes ticket.seq d.node d.disk))
+  gives_up_go ticket said (inl mail) = gives_up_mail ticket said mail
+  gives_up_go ticket said (inr read) = reading_goes old old new (same_world old old refl) read.goes_on
+
+  drops_go : (letter : ℕ) (said : Said) → DoesStep plan tells old (DropLetter letter) said new → OtherGoes old new
+  drops_go letter said (inl (d, body)) = subst (λ (w : World). OtherGoes old w) (sym d.new_world) (slots_go old _ refl refl (missed_goes Dropped old.slots d.flies.letter))
+  drops_go letter said (inr d) = taken_goes old new (flies_on old letter d.flies false) d.goes_on
 
   pushes_go : (own to : ℕ) (said : Said) → Pushes old own to said new → OtherGoes old new
   pushes_go own to said (Sends node disk up is new_world) = subst (λ (w : World). OtherGoes old w) (sym new_world)
@@ -251,15 +300,18 @@ module _ (plan : Plan) (tells : Bool) (old new : World) (sound : Sound plan.conf
   starts_go n said (FailsStarting disk pending next records here stops is new_world) = stops_go n disk pending next records here new_world
 
   does_go : (step : Step) (said : Said) → IsIdleStep step (Says said) → DoesStep plan tells old step said new → OtherGoes old new
-  does_go (Begin node (Leave user)) said other d = leaves_go user node said d
+  does_go (Begin node (Leave user login manager)) said other (inl d) = leaves_go user login manager node said d
+  does_go (Begin node (Leave user login manager)) said other (inr d) = leaves_read user login manager node said d
   does_go (Begin node (Deliver mail)) said other d = absurd other
   does_go (Begin node (Login user proof)) said other d = absurd other
-  does_go (Begin node (Fetch user id from most)) said other d = absurd other
+  does_go (Begin node (Fetch user id from most holders)) said other d = absurd other
   does_go (Begin node (Strike user items)) said other d = absurd other
-  does_go (AskFor ticket) said other d = asks_go ticket said other d
+  does_go (AskFor ticket) said other (inl d) = asks_go ticket said other d
+  does_go (AskFor ticket) said other (inr d) = same_world old new d.new_world
   does_go (GiveUp ticket) said other d = gives_up_go ticket said d
-  does_go (Post letter keep) said other d = posts_go plan old new letter keep said d
-  does_go (DropLetter letter) said other d = subst (λ (w : World). OtherGoes old w) (sym d.new_world) (slots_go old _ refl refl (missed_goes Dropped old.slots d.flies.letter))
+  does_go (Post letter keep) said other (inl d) = posts_go plan old new letter keep said d.0
+  does_go (Post letter keep) said other (inr d) = posts_read_go old new letter keep said d
+  does_go (DropLetter letter) said other d = drops_go letter said d
   does_go (PushTo from to) said other d = pushes_go from to said d
   does_go (Widen at user id to) said other d = widens_go at to (Message user id) said d
   does_go (Form node) said other d = forms_go node said d
@@ -271,9 +323,9 @@ module _ (plan : Plan) (tells : Bool) (old new : World) (sound : Sound plan.conf
   begins_short : (n : ℕ) (call : NodeCall) (node : Node) (disk : List Record) (octets : List ℕ) → IsIdleStep (Begin n call) (NoMemory (Some n)) → IsFiled old n node call octets → OtherGoes old new
   begins_short n (Deliver mail) node disk octets other filed = absurd other
   begins_short n (Login user proof) node disk octets other filed = absurd other
-  begins_short n (Fetch user id from most) node disk octets other filed = absurd other
+  begins_short n (Fetch user id from most holders) node disk octets other filed = absurd other
   begins_short n (Strike user items) node disk octets other filed = absurd other
-  begins_short n (Leave user) node disk octets other filed = absurd filed
+  begins_short n (Leave user login manager) node disk octets other filed = absurd filed
 
   short_goes : (step : Step) (n : ℕ) → IsIdleStep step (NoMemory (Some n)) → RunsShort plan old step n new → OtherGoes old new
   short_goes step n other (Beginning call node disk octets is up filed g) = begins_short n call node disk octets (subst (λ s. IsIdleStep s (NoMemory (Some n))) is other) filed

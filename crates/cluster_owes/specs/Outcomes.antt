@@ -12,13 +12,18 @@ use Rattle.session_model.specs.Logs.{Asked, Answered}
 use Rattle.session_model.specs.SoundMails.{IsSoundMail}
 use Rattle.cluster_model.specs.Progress.{NodeAnswer}
 use Rattle.cluster_model.specs.Progress.Ask.{Done}
-use Rattle.cluster_model.specs.World.{World}
-use Rattle.cluster_model.specs.Steps.{NodeCall, Step, StepOutcome}
+use Rattle.cluster_model.specs.Steps.{NodeCall}
 use Rattle.cluster_model.specs.Steps.NodeCall.{Leave}
+use Rattle.cluster_model.specs.Steps as mail
 use Rattle.cluster_model.specs.Steps.Step.{Begin, AskFor, GiveUp, Tick}
 use Rattle.cluster_model.specs.Steps.Said.{Begun, Asked as AskedFor, Finished, Faulted}
-use Rattle.cluster_model.specs.Steps.StepOutcome.{Says, Refused, NoMemory}
-use Rattle.cluster_model.specs.Makes.{MakesStep}
+use Rattle.whole_world.specs.Steps.{Step, StepOutcome}
+use Rattle.whole_world.specs.Steps.Step.{OfMessages}
+use Rattle.whole_world.specs.Steps.Said.{Told}
+use Rattle.whole_world.specs.Steps.StepOutcome.{Says}
+use Rattle.whole_world.specs.Seen.{step_seen, outcome_seen}
+use Rattle.joint_world.specs.World.{World}
+use Rattle.joint_world.specs.Makes.{MakesStep}
 use Rattle.cluster_owes.specs.Seen.{call_made, answer_told}
 
 -- What came of a step.
@@ -59,32 +64,33 @@ begun_by_outcome (Began k node asked ticket) = record { ticket = ticket; session
 begun_by_outcome outcome = []
 
 -- a node went down in the step
-abbrev pub IsFall : StepOutcome → Type 0
-IsFall (Says (Faulted node)) = ⊤
-IsFall (NoMemory (Some node)) = ⊤
+abbrev pub IsFall : mail.StepOutcome → Type 0
+IsFall (mail.StepOutcome.Says (Faulted node)) = ⊤
+IsFall (mail.StepOutcome.NoMemory (Some node)) = ⊤
 IsFall outcome = ⊥
 
 -- no call begins in the step but a Leave, no ticket is answered, and the clock is not set
-abbrev pub IsIdleStep : Step → StepOutcome → Type 0
-IsIdleStep (Begin node (Leave user)) outcome = ⊤
-IsIdleStep (Begin node call) (Refused fault) = ⊤
-IsIdleStep (Begin node call) (NoMemory None) = ⊤
+abbrev pub IsIdleStep : mail.Step → mail.StepOutcome → Type 0
+IsIdleStep (Begin node (Leave user login manager)) outcome = ⊤
+IsIdleStep (Begin node call) (mail.StepOutcome.Refused fault) = ⊤
+IsIdleStep (Begin node call) (mail.StepOutcome.NoMemory None) = ⊤
 IsIdleStep (Begin node call) outcome = ⊥
-IsIdleStep (AskFor ticket) (Says (AskedFor (Done answer))) = ⊥
-IsIdleStep (Tick seconds) (Says said) = ⊥
+IsIdleStep (AskFor ticket) (mail.StepOutcome.Says (AskedFor (Done answer))) = ⊥
+IsIdleStep (Tick seconds) (mail.StepOutcome.Says said) = ⊥
 IsIdleStep step outcome = ⊤
 
 -- the cluster made a step of which this came, where these calls had begun
 abbrev pub Came : Plan → Bool → Outcome → List BegunCall → World → World → Type 0
-Came plan tells (Began k node asked ticket) begun old new = (call : NodeCall) × (call_made call ≡ Some asked) × MakesStep plan tells old (Begin node call) (Says (Begun ticket)) new
+Came plan tells (Began k node asked ticket) begun old new =
+    (call : NodeCall) × (call_made call ≡ Some asked) × MakesStep plan tells old (OfMessages (Begin node call)) (Says (Told (Begun ticket))) new
 Came plan tells (Fell k node asked) begun old new =
-    (call : NodeCall) × (outcome : StepOutcome) × (call_made call ≡ Some asked) × IsFall outcome × MakesStep plan tells old (Begin node call) outcome new
+    (call : NodeCall) × (outcome : StepOutcome) × (call_made call ≡ Some asked) × IsFall (outcome_seen outcome) × MakesStep plan tells old (OfMessages (Begin node call)) outcome new
 Came plan tells (Answers k asked ticket given) begun old new =
     (own : NodeAnswer) × (given ≡ answer_told own) × Among (record { ticket = ticket; session = k; call = asked }) begun
-    × MakesStep plan tells old (AskFor ticket) (Says (AskedFor (Done own))) new
-Came plan tells (GaveUp k asked ticket) begun old new = MakesStep plan tells old (GiveUp ticket) (Says Finished) new
-Came plan tells (Ticked seconds) begun old new = MakesStep plan tells old (Tick seconds) (Says Finished) new
-Came plan tells (Other step outcome) begun old new = IsIdleStep step outcome × MakesStep plan tells old step outcome new
+    × MakesStep plan tells old (OfMessages (AskFor ticket)) (Says (Told (AskedFor (Done own)))) new
+Came plan tells (GaveUp k asked ticket) begun old new = MakesStep plan tells old (OfMessages (GiveUp ticket)) (Says (Told Finished)) new
+Came plan tells (Ticked seconds) begun old new = MakesStep plan tells old (OfMessages (Tick seconds)) (Says (Told Finished)) new
+Came plan tells (Other step outcome) begun old new = IsIdleStep (step_seen step) (outcome_seen outcome) × MakesStep plan tells old step outcome new
 
 -- it made these, one after another, and no others
 abbrev pub Makes : Plan → Bool → List Outcome → List BegunCall → World → World → Type 0

@@ -4,7 +4,7 @@ use Rattle.mail_model.specs.PopReplies.{Item}
 use Rattle.session_model.specs.Calls.{Call, Answer, given_of}
 use Rattle.session_model.specs.Calls.Answer.{Stored, Listed, Wrong, InUse, NoProfile, Part, GoneAlready, Dropped, Failed}
 use Rattle.cluster_model.specs.Reads.{ListedCopy, Found}
-use Rattle.cluster_model.specs.Reads.Found.{Listed as ListedFound, WrongSecret, PartOf, NotThere}
+use Rattle.cluster_model.specs.Reads.Found.{Listed as ListedFound, WrongSecret, InUse as InUseFound, NoProfile as NoProfileFound, PartOf, NotThere}
 use Rattle.cluster_model.specs.Progress.{NodeAnswer}
 use Rattle.cluster_model.specs.Progress.NodeAnswer.{Stored as IsStored, Dropped as AreDropped, Read, Failed as HasFailed}
 use Rattle.cluster_model.specs.Steps.{NodeCall}
@@ -18,19 +18,19 @@ is_whole from most = nat_eq from 0 && nat_eq most 18446744073709551615
 abbrev pub call_made : NodeCall → Option Call
 call_made (Deliver mail) = Some (Call.Deliver mail)
 call_made (Login user proof) = Some (Call.Login user (given_of proof))
-call_made (Fetch user id from most) = if is_whole from most then Some (Call.Fetch user id) else None
+call_made (Fetch user id from most holders) = if is_whole from most then Some (Call.Fetch user id) else None
 call_made (Strike user items) = Some (Call.Strike user (map (λ item. item.id) items))
-call_made (Leave user) = None
+call_made (Leave user login manager) = None
 
 -- a message of a listing as a session shows it
 abbrev pub item_listed : ListedCopy → Item
 item_listed copy = record { id = copy.id; size = copy.size }
 
 abbrev pub found_told : Found → Answer
-found_told (ListedFound items) = Listed (map item_listed items)
-found_told WrongSecret = Wrong
-found_told Found.InUse = InUse
-found_told Found.NoProfile = NoProfile
+found_told (ListedFound login manager asked items) = Listed (map item_listed items)
+found_told (WrongSecret stamp) = Wrong
+found_told (InUseFound by) = InUse
+found_told (NoProfileFound manager) = NoProfile
 found_told (PartOf octets whole) = Part octets
 found_told NotThere = GoneAlready
 

@@ -2,8 +2,10 @@
 //!
 //! SUMMARY
 //!
-//! `cluster_model` says what holds of a cluster whatever steps it makes, and `session_model` says
+//! `joint_world` says what holds of a cluster whatever steps it makes, and `session_model` says
 //! what a cluster owes so that the promises to clients are kept. Here the one follows from the other.
+//! What stands on messages follows from what `cluster_model` sees of the steps, and what a login
+//! listed or a fetch was told from what is known of calls that read.
 //!
 //! DESCRIPTION
 //!
@@ -15,11 +17,12 @@
 //! - `Laws`: what is proved.
 //!
 //! The laws are functions that do nothing, and their contracts hold of the definitions alone:
-//! `cluster_owes`, `answers_fit`.
+//! `cluster_owes`, `answers_fit`, `none_waits`.
 //!
 //! STANDS ON
 //!
-//! `cluster_model` and its laws; `session_model` for calls, answers and what is owed.
+//! `joint_world`, `whole_world` and `cluster_model` with their laws; `session_model` for calls, answers
+//! and what is owed.
 //!
 //! WHAT IT DOES NOT DO
 //!

@@ -15,6 +15,7 @@
 //! | `tests/groups.rt` | two groups whose letters interleave, in each order of their asking, joining and installing; nodes that stop in a round; regroups, also of two nodes of four |
 //! | `tests/installs.rt` | what the book has of installed epochs: regroups, an Install that is heard twice, and Installs that are thrown |
 //! | `tests/settles.rt` | reports that are lost, repeated and of another epoch; settling with members that are down or not let in, with an epoch on its way, and with each call of a disk failing; and that after messages at four nodes maps name just the nodes whose stores show one |
+//! | `tests/logins.rt` | logins whose letters are lost, repeated and late, a manager that stops in one, fetches whose holders are down, deletions at a node that has no mail, and locks |
 //! | `tests/orders.rt` | the first six letters of a message in each order, with each drop, for two copies and for three |
 //! | `tests/faults.rt` | each call of each disk failing in turn, from the opening of the cluster to the end of a delivery |
 //! | `tests/telling.rt` | several steps in one call, posting all letters, and what a cluster tells of its calls, letters and members |
@@ -36,8 +37,7 @@
 //!
 //! WHAT IT DOES NOT DO
 //!
-//! No step is refused as `Worn`: that would take more letters than can be sent. Memory does not run out in these tables. The
-//! calls of a POP3 session are not begun.
+//! No step is refused as `Worn`: that would take more letters than can be sent. Memory does not run out in these tables.
 #![tactic(auto)]
 
 mod fresh;

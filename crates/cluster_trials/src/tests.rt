@@ -8,6 +8,7 @@ mod faults;
 mod groups;
 mod installs;
 mod journals;
+mod logins;
 mod orders;
 mod settles;
 mod steps;
@@ -18,7 +19,8 @@ use call_tickets::{Answer, Ask, Call};
 use cluster_world::{OpenFault, Regroup, Said, Settle, Step, StepFault, World};
 use io_edge::Disk;
 use mail_base::{
-    Deliver, MsgId, Name, Names, NodeNo, NodeSet, Octets, Plan, Secret, Ticket, Users,
+    Deliver, Item, Items, MsgId, Name, Names, NodeNo, NodeSet, Octets, Plan, Proof, Secret, Stamp,
+    Ticket, Users,
 };
 use node_core::Why;
 use node_disk::MemoryDisk;
@@ -110,6 +112,50 @@ fn first_id() -> MsgId {
     MsgId::new(NodeNo::new(1).unwrap(), 1, 1).unwrap()
 }
 
+/// A login of ann, by her secret or by another one.
+fn login(alloc: Global, secret: &[u8]) -> Result<Call, AllocError> {
+    Ok(Call::Login {
+        user: ann(alloc)?,
+        proof: Proof::Pass(Octets::from_vec(secret.to_vec(alloc)?)),
+    })
+}
+
+/// A fetch of ann's first message from the nodes of this mask.
+fn fetch(alloc: Global, holders: u8) -> Result<Call, AllocError> {
+    Ok(Call::Fetch {
+        user: ann(alloc)?,
+        id: first_id(),
+        holders: NodeSet::from_mask(u16::from(holders)),
+        from: 0,
+        most: 9,
+    })
+}
+
+/// Its deletion at the nodes of this mask.
+fn strike(alloc: Global, targets: u8) -> Result<Call, AllocError> {
+    let mut items = Items::new(alloc);
+    items.push(Item {
+        id: first_id(),
+        stamp: Stamp::new(1, 1, 1),
+        targets: NodeSet::from_mask(u16::from(targets)),
+        holders: NodeSet::from_mask(u16::from(targets)),
+        length: 0,
+    })?;
+    Ok(Call::Strike {
+        user: ann(alloc)?,
+        items,
+    })
+}
+
+/// The end of a session whose login is this ticket, at node 1 as the manager.
+fn leave(alloc: Global, login: Ticket) -> Result<Call, AllocError> {
+    Ok(Call::Leave {
+        user: ann(alloc)?,
+        login,
+        manager: node(1),
+    })
+}
+
 /// What a digit counts, where `a` follows 9.
 fn count(digit: u8) -> u8 {
     match digit {
@@ -130,7 +176,8 @@ fn digit(count: u64) -> u8 {
     b'+'
 }
 
-/// The step that three letters tell: what is done, and with which nodes, ticket or letter.
+/// The step that three letters tell: what is done, and with which nodes, ticket or letter. A fetch and a deletion have the mask of
+/// nodes in the third.
 fn step_of(alloc: Global, what: u8, first: u8, second: u8) -> Result<Step, AllocError> {
     let one = node(count(first));
     let two = node(count(second));
@@ -140,6 +187,26 @@ fn step_of(alloc: Global, what: u8, first: u8, second: u8) -> Result<Step, Alloc
         b'D' => Step::Begin {
             node: one,
             call: Call::Deliver(hello(alloc)?),
+        },
+        b'l' => Step::Begin {
+            node: one,
+            call: login(alloc, b"open sesame")?,
+        },
+        b'w' => Step::Begin {
+            node: one,
+            call: login(alloc, b"open")?,
+        },
+        b'f' => Step::Begin {
+            node: one,
+            call: fetch(alloc, count(second))?,
+        },
+        b'd' => Step::Begin {
+            node: one,
+            call: strike(alloc, count(second))?,
+        },
+        b'v' => Step::Begin {
+            node: one,
+            call: leave(alloc, Ticket::new(one, 1, seq))?,
         },
         b'A' => Step::Ask {
             ticket: Ticket::new(one, 1, seq),
@@ -179,13 +246,16 @@ fn told_answer(answer: &Answer) -> [u8; 2] {
             }
         }
         Answer::Failed(_) => *b"F.",
-        Answer::Listed { .. }
-        | Answer::Wrong { .. }
-        | Answer::InUse { .. }
-        | Answer::NoProfile { .. }
-        | Answer::Part { .. }
-        | Answer::GoneAlready
-        | Answer::Dropped { .. } => *b"??",
+        Answer::Listed { items, .. } => [b'L', digit(items.len() as u64)],
+        Answer::Wrong { .. } => *b"W.",
+        Answer::InUse { by } => [b'I', digit(u64::from(by.node.number()))],
+        Answer::NoProfile { .. } => *b"??",
+        Answer::Part { .. } => *b"O.",
+        Answer::GoneAlready => *b"G.",
+        Answer::Dropped { confirmers } => match confirmers.first() {
+            Some(set) => [b'X', digit(u64::from(set.mask()))],
+            None => *b"X.",
+        },
     }
 }
 

@@ -131,13 +131,13 @@ slot_up_of on nodes n node up slots st =
 
 -- why a disk failed that wrote
 pub caused : {D : Type 0} (on : View D) (n : ℕ) (P : Life → D → Life → D → Type 0) (old new : Nodes D) (ch : ChangesNode n P old new) (s : Step) (flying flying' : InFlight) (seconds seconds' : ℕ) (book book' : Book)
-    → Rose (on.faults ch.disk) (on.faults ch.disk') ⊎ ((on.seen ch.disk ≡ None) × MayMisread s)
+    → Rose (on.faults ch.disk) (on.faults ch.disk') ⊎ ((on.seen ch.disk ≡ None) × MayMisread flying.flights s)
     → FaultHasCause on (Ok (Faulted n)) s (state_with old flying seconds book) (state_with new flying' seconds' book')
 caused on n P old new ch s flying flying' seconds seconds' book book' why d d' e e' =
     let d_is : ch.disk ≡ d = some_same ch.disk d (sym ch.held ∙ e) in
     let d'_is : ch.disk' ≡ d' = some_same ch.disk' d' (sym (disk_there n P old new ch) ∙ e') in
-    subst (λ x. Rose (on.faults d) (on.faults x) ⊎ ((on.seen d ≡ None) × MayMisread s)) d'_is
-    (subst (λ x. Rose (on.faults x) (on.faults ch.disk') ⊎ ((on.seen x ≡ None) × MayMisread s)) d_is why)
+    subst (λ x. Rose (on.faults d) (on.faults x) ⊎ ((on.seen d ≡ None) × MayMisread flying.flights s)) d'_is
+    (subst (λ x. Rose (on.faults x) (on.faults ch.disk') ⊎ ((on.seen x ≡ None) × MayMisread flying.flights s)) d_is why)
 
 same_node : (x y : WholeNode) → Up x ≡ Up y → x ≡ y
 same_node x y e = cc
@@ -366,7 +366,7 @@ pub turns_at : {T D : Type 0} (seen : D → Option (List ℕ)) (Q : ℕ → Resu
     → TurnsBy seen (λ result old before new after. (p : Plan) (own : ℕ) → IsNodeOf p own old → Q own result old before new after)
     (λ result old before new after. (p : Plan) (own : ℕ) → IsNodeOf p own old.mail → M own result old before new after) r l d l' d' → TurnsBy seen (Q n) (M n) r l d l' d'
 turns_at seen Q M plan n r l d l' d' of t =
-    record { old = t.old; new = t.new; was = t.was; did = t.did plan n (of t.old t.was); maps = t.maps plan n (of t.old t.was); is = t.is; works = t.works }
+    record { old = t.old; new = t.new; was = t.was; did = t.did plan n (of t.old t.was); maps = t.maps plan n (of t.old t.was); beside = t.beside; is = t.is; works = t.works }
 
 -- A node that is to work, at its place.
 module _ {D : Type 0} (seen : D → Option (List ℕ)) (s : Step) (n to k : ℕ) (nodes : Nodes D) (named : list_all (is_node nodes.plan) (n ∷ to ∷ []) ≡ true)

@@ -22,7 +22,7 @@ use Rattle.node_store.specs.Disks.{View}
 use Rattle.whole_node.specs.Following as node_follows
 use Rattle.node_core.specs.Nodes.{node_seen, NodeKeeps, IsAsBefore, IsNodeOf}
 use Rattle.node_core.specs.Works.{Rule, NodeDid, NodeStopped}
-use Rattle.whole_node.specs.Nodes.{WholeWorks}
+use Rattle.whole_node.specs.Nodes.{WholeWorks, joint_seen}
 use Rattle.whole_node.specs.declared.node.WholeNode.{WholeNode}
 use Rattle.world_book.specs.declared.book.Book.{Book}
 use Rattle.cluster_world.specs.Books.{booked_by, IsLongerBook}
@@ -35,7 +35,7 @@ use Rattle.cluster_world.specs.Missing.{all_missed, OnlyTickets, SentOff}
 use Rattle.cluster_world.specs.Moments.{StopsKeep}
 use Rattle.cluster_world.specs.Works.{slot_after, SlotTurned, SlotCut}
 use Rattle.cluster_world.specs.Turns.{node_refusal, life_after_step, seconds_after_step}
-use Rattle.cluster_world.specs.Steps.{AreToldAlike, IsQuiet, AreSettled, EveryStopKeeps, StepDid, LeadsTo, FaultHasCause, IsRefusedRight, SaysSo, FallsSo, IsLighter, ChangesNothing}
+use Rattle.cluster_world.specs.Steps.{AreToldAlike, IsQuiet, AreSettled, EveryStopKeeps, StepDid, FaultHasCause, IsRefusedRight, SaysSo, FallsSo, ChangesNothing, LeadsMail, HasPassed}
 use Rattle.cluster_world.specs.declared.step.Step.{Step}
 use Rattle.cluster_world.specs.declared.step.Said.{Said}
 use Rattle.cluster_world.specs.declared.fault.StepFault.{StepFault}
@@ -52,13 +52,22 @@ use Rattle.cluster_world.proofs.Befallen.{turned_still}
 use Rattle.cluster_world.proofs.Falling.{fallen}
 use Rattle.cluster_world.proofs.Kept.{kept_at, all_kept, stops_on}
 use Rattle.cluster_world.proofs.Putting.{with_put, put_is}
+use Rattle.cluster_world.proofs.SameReads.{same_reads}
+use Rattle.cluster_world.proofs.Lifting.{IsNoAsk, IsDoneWhole, lift}
+use Rattle.cluster_world.proofs.Beside.{one_keeps}
+use Rattle.cluster_world.proofs.Wholly.{even_of}
+use Rattle.joint_world.specs.World as joint_world
+use Rattle.joint_world.specs.Staying.{KeepsReads, IsForWhole}
+use Rattle.cluster_world.specs.Keeping.{joint_life}
+use Rattle.cluster_world.specs.Maps.{StandsForAll}
+use Rattle.cluster_world.specs.Seen.{whole_step, whole_outcome}
 
 same_maps : (a b : WholeNode) → Up a ≡ Up b → b.maps ≡ a.maps
 same_maps a b e = ap (λ (x : WholeNode). x.maps) (sym (up_same a b e))
 
 -- Nothing else changed after the node worked.
 pub nothing_else : {D : Type 0} (on : View D) (nodes : Nodes D) → OnlyTickets on (λ slots. slots) nodes nodes
-nothing_else on nodes = record { plan = refl; disks = refl; lives = λ n. refl; maps = λ n a b e f. same_maps a b (some_same (Up a) (Up b) (sym e ∙ f)); falls = refl; slots = λ slots s. s }
+nothing_else on nodes = record { plan = refl; disks = refl; lives = λ n. refl; maps = λ n a b e f. same_maps a b (some_same (Up a) (Up b) (sym e ∙ f)); beside = λ n a b e f. same_reads a b (up_same b a (some_same (Up b) (Up a) (sym f ∙ e))); falls = refl; slots = λ slots s. s }
 
 set_again : {X : Type 0} (xs : List X) (k : ℕ) (x y : X) → slice_set (slice_set xs k x) k y ≡ slice_set xs k y
 set_again [] k x y = refl
@@ -166,10 +175,12 @@ module _ {D : Type 0} (on : View D) (n : ℕ) (P : Life → D → Life → D →
     pub work_did : (result : Result Said StepFault) (step : Step) → seconds ≡ seconds_after_step step result seconds → IsRefusedRight result (node_refusal old.plan (life_among old) step) → IfOk result (SaysSo step)
         → FallsSo result old.plan.nodes step (life_among old) → ((m : ℕ) → life_among new m ≡ life_after_step result step m (life_among old m))
         → IsToldAlike (on.seen ch.disk) (on.seen ch.disk') → on.faults ch.disk ≤ on.faults ch.disk'
-        → ((boot : ℕ) → life_seen ch.life' ≡ life.Up boot → on.faults ch.disk' ≡ on.faults ch.disk) → IsLighter result step before behind → IsLongerBook (booked_by book) (booked_by book')
+        → ((boot : ℕ) → life_seen ch.life' ≡ life.Up boot → on.faults ch.disk' ≡ on.faults ch.disk) → HasPassed result step before behind → IsLongerBook (booked_by book) (booked_by book')
         → ChangesNothing on result step before behind
-        → ((w : machine.World) → StateStandsFor on before w → LeadsTo on result step before behind w) → FaultHasCause on result step before behind → StepDid on result step before behind
-    work_did result step clock refused kind falls lives told later same lighter books kept leads cause = record {
+        → IsNoAsk step → ((v : joint_world.World) → StandsForAll on before v → IsDoneWhole (whole_outcome result) → IsForWhole v (whole_step step))
+        → ((b : WholeNode) → ch.life' ≡ Up b → KeepsReads (joint_life ch.life) (joint_seen b))
+        → ((w : machine.World) → StateStandsFor on before w → LeadsMail on result step before behind w) → FaultHasCause on result step before behind → StepDid on result step before behind
+    work_did result step clock refused kind falls lives told later same passed books kept asks for own leads cause = record {
       plan = work_plan;
       handed = work_handed;
       refused = refused;
@@ -179,10 +190,10 @@ module _ {D : Type 0} (on : View D) (n : ℕ) (P : Life → D → Life → D →
       told = work_told on.seen told;
       quiet = work_quiet on.faults later same;
       clock = clock;
-      lighter = lighter;
+      passed = passed;
       books = books;
       kept = kept;
-      leads = λ known ended w st. leads w st;
+      leads = λ known ended. lift on result step before behind (even_of old) (even_of new) asks for (one_keeps n P old mid ch own on change new only) leads;
       cause = λ w st. cause;
     }
 

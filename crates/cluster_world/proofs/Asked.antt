@@ -1,5 +1,5 @@
 -- What an ask of a ticket does.
-use Rattle.std.proofs.Common.{◌≡◌, ◌≢◌, inl, ℕ, zero, suc, ◌+◌, ◌≤◌, Bool, true, false, List, [], ◌∷◌, ◌++◌, length, append-nil, Option, Some, None, Result, Ok, Err, refl, sym, ap, ◌∙◌, subst, arith, nat_eq, nat_le, if◌then◌else◌}
+use Rattle.std.proofs.Common.{◌≡◌, ◌≢◌, inl, ℕ, zero, suc, ◌+◌, ◌≤◌, Bool, true, false, List, [], ◌∷◌, ◌++◌, length, append-nil, Option, Some, None, Result, Ok, refl, sym, ap, ◌∙◌, subst, arith, nat_eq, nat_le, if◌then◌else◌}
 use Rattle.std.specs.Prelude.{IfSome, is_some, MatchBool}
 use Rattle.std.specs.List.{list_all}
 use Rattle.std.specs.FinMap as fin
@@ -30,7 +30,7 @@ use Rattle.whole_world.specs.World as whole_world
 use Rattle.node_core.specs.Nodes.{node_seen, IsNodeOf}
 use Rattle.node_core.specs.Standing.{ticket_standing}
 use Rattle.node_core.specs.declared.node.Node.{Node}
-use Rattle.whole_node.specs.Nodes.{WholeWorks}
+use Rattle.whole_node.specs.Nodes.{WholeWorks, joint_seen}
 use Rattle.whole_node.specs.declared.node.WholeNode.{WholeNode}
 use Rattle.world_book.specs.Books.{entries_of, spare_of}
 use Rattle.world_book.specs.declared.book.Book.{Book}
@@ -44,7 +44,7 @@ use Rattle.cluster_world.specs.Changes.{ChangesNode}
 use Rattle.cluster_world.specs.Asking.{IsUpWhole, AreForTicket, confirms, IsAskedOn, IsRetold, IsRetoldOn, tickets_without, IsDoneAt}
 use Rattle.cluster_world.specs.Turns.{life_refusal, node_refusal}
 use Rattle.cluster_world.specs.Moments.{StopsKeep}
-use Rattle.cluster_world.specs.Steps.{StepDid, AreSettled, LeadsTo, AreToldAlike, IsQuiet}
+use Rattle.cluster_world.specs.Steps.{StepDid, AreSettled, AreToldAlike, IsQuiet, LeadsMail}
 use Rattle.cluster_world.specs.declared.life.Life.{Life}
 use Rattle.cluster_world.specs.declared.life.Life.TheVariants.{Up, Down, Lost}
 use Rattle.cluster_world.specs.declared.nodes.Nodes.{Nodes}
@@ -54,19 +54,29 @@ use Rattle.cluster_world.specs.declared.step.Step.TheVariants as step
 use Rattle.cluster_world.specs.declared.step.Said.TheVariants.{Asked, Done}
 use Rattle.cluster_world.specs.declared.fault.StepFault.{StepFault}
 use Rattle.cluster_world.specs.declared.fault.StepFault.TheVariants as fault
-use Rattle.cluster_world.proofs.Still.{some_same, both_at, nothing_read}
+use Rattle.cluster_world.proofs.Still.{some_same, both_at}
 use Rattle.cluster_world.proofs.Changing.{set_same}
 use Rattle.cluster_world.proofs.Turned.{slot_of, lives_turned, as_many, told_by, quiet_by, settled_by, still_ready, falls_now, stops_kept, stands_now}
-use Rattle.cluster_world.proofs.Refusing.{fit_of, ask_goes, no_ticket_asked, give_up_goes}
+use Rattle.cluster_world.proofs.Refusing.{fit_of, ask_goes, give_up_goes}
 use Rattle.cluster_world.proofs.Falling.{falls_kept, entries_more}
 use Rattle.cluster_world.proofs.Unchanged.{unchanged_by}
-use Rattle.cluster_world.specs.Sure.{is_done_in}
-use Rattle.cluster_world.specs.Telling.{standing_on}
+use Rattle.cluster_world.specs.Sure.{is_done_in, is_done_of}
+use Rattle.cluster_world.specs.Telling.{standing_on, reading_on}
 use Rattle.cluster_world.proofs.Longer.{as_long}
 use Rattle.cluster_world.proofs.Follows.{alone_follows, follows_none}
 use Rattle.cluster_world.proofs.Told.{IsOfMail, IsDone}
 use Rattle.cluster_world.proofs.Turning.{up_same}
 use Rattle.cluster_world.proofs.Wholly.{led, even_of}
+use Rattle.cluster_world.proofs.Lifting.{lifted}
+use Rattle.cluster_world.proofs.Beside.{alone_keeps}
+use Rattle.cluster_world.proofs.WholeFaults.{ask_alike, give_up_alike}
+use Rattle.joint_world.specs.Steps.{is_mail_ticket}
+use Rattle.joint_world.specs.World.{whole_world_of}
+use Rattle.whole_world.specs.World.{mail_world_of}
+use Rattle.joint_world.specs.Staying.{KeepsReads}
+use Rattle.cluster_world.specs.Keeping.{joint_life, ReadsKept}
+use Rattle.login_model.specs.Readings.{ReadTicket}
+use Rattle.std.proofs.lemmas.Bool.{false≢true}
 
 when_done : (b : Bool) (X Y : Type 0) → b ≡ true → MatchBool b X Y → X
 when_done true X Y e m = m
@@ -202,7 +212,7 @@ module _ {D : Type 0} (on : View D) (ticket : Number) (left_of : Node → plain.
         → (slot : Slot) → slot_at w.slots ticket.node ≡ Some slot → SlotStands on ticket.node ch.life ch.disk slot
         → Rattle.cluster_model.specs.Makes.MakesStep old.plan (Rattle.cluster_world.specs.Worlds.tells_in on.seen before) w (step_seen s) (Rattle.cluster_world.specs.Seen.outcome_seen outcome)
         (record w { slots = with_slot w.slots ticket.node (slot_then slot); book = w.book ++ entries })
-        → IsOfMail outcome s → ((v : whole_world.World) → IsDone (Rattle.cluster_world.specs.Seen.outcome_seen outcome) → IsForMessages v (step_seen s)) → LeadsTo on outcome s before behind w
+        → IsOfMail outcome s → ((v : whole_world.World) → IsDone (Rattle.cluster_world.specs.Seen.outcome_seen outcome) → IsForMessages v (step_seen s)) → LeadsMail on outcome s before behind w
     leads_so s outcome entries wrote w st slot here stood made is for = led on outcome s before behind (even_of old) (even_of new) w st is (λ v seen sound done. for v done) (record {
       next = record w { slots = with_slot w.slots ticket.node (slot_then slot); book = w.book ++ entries };
       stands = stands_now ticket.node (IsRetoldOn left_of) old new ch on flying seconds book book' entries wrote w st (slot_then slot) (stands_then slot stood);
@@ -227,40 +237,21 @@ module _ {D : Type 0} (on : View D) (ticket : Number) (left_of : Node → plain.
         → stands_at ticket (slot_at w.slots ticket.node) ≡ is_some (ticket_standing a.old.mail ticket)
     stands_here w slot here is = ap (stands_at ticket) (here ∙ ap Some is) ∙ ap (λ (o : Option plain.Ticket). is_some o) standing
 
+    -- so of each world
+    stands_in : (w : machine.World) → StateStandsFor on before w → stands_at ticket (slot_at w.slots ticket.node) ≡ is_some (ticket_standing a.old.mail ticket)
+    stands_in w st =
+        let (slot, here, stood) = slot_of on old.lives.items old.disks.items w.slots ticket.node ch.life ch.disk st.slots ch.was ch.held in
+        stands_here w slot here (seen_there slot stood)
+
+    retold_keeps : ReadsKept old.lives.items new.lives.items
+    retold_keeps = alone_keeps ticket.node (IsRetoldOn left_of) old new ch (λ b is.
+        subst (λ l. KeepsReads (joint_life l) (joint_seen b)) (sym a.was)
+        (subst (λ (x : WholeNode). KeepsReads (joint_life (Up a.old)) (joint_seen x)) (up_same a.new b (sym a.is ∙ is)) a.tickets.beside))
+
     -- A ticket is asked.
     module _ (result : Option code.Ask) (fit : node_refusal old.plan (life_among old) (step.Ask ticket) ≡ None)
         (answered : asks_seen result ≡ asks_at a.old.mail.shape.confirm (ticket_standing a.old.mail ticket))
         (left_out : left ≡ asked_out a.old.mail.shape.confirm ticket.seq (ticket_standing a.old.mail ticket) (node_seen a.old.mail).tickets) where
-      -- no such ticket
-      pub none_asked : result ≡ None → booked_by book' ≡ booked_by book → StepDid on (Err fault.NoSuchTicket) (step.Ask ticket) before behind
-      none_asked none wrote =
-          let st_none : ticket_standing a.old.mail ticket ≡ None = no_answer a.old.mail.shape.confirm (ticket_standing a.old.mail ticket) (sym (ap asks_seen none) ∙ answered) in
-          let left_is : left ≡ (node_seen a.old.mail).tickets = left_out ∙ ap (λ o. asked_out a.old.mail.shape.confirm ticket.seq o (node_seen a.old.mail).tickets) st_none in
-          record {
-            plan = ch.plan;
-            handed = as_many ticket.node (IsRetoldOn left_of) old new ch;
-            refused = sym fit;
-            kind = tt;
-            falls = tt;
-            lives = retold_lives;
-            told = retold_told;
-            quiet = retold_quiet;
-            clock = refl;
-            lighter = tt;
-            books = as_long (booked_by book) (booked_by book') wrote;
-            kept = unchanged_by ticket.node (IsRetoldOn left_of) old new ch flying flying seconds seconds book book' on (step.Ask ticket)
-                (ap (λ (l : Life). node_of_life (Some l)) a.is ∙ ap Some (a.tickets.mail.seen ∙ ap (λ (l : plain.Tickets). record (node_seen a.old.mail) { tickets = l }) left_is) ∙ sym (ap (λ (l : Life). node_of_life (Some l)) a.was))
-                (λ _. ch.does.1) (λ _. (nothing_read on ch.disk ch.disk' ch.does.1, ap on.faults ch.does.1)) refl refl wrote;
-            leads = λ known ended w st.
-                let (slot, here, stood) = slot_of on old.lives.items old.disks.items w.slots ticket.node ch.life ch.disk st.slots ch.was ch.held in
-                let is = seen_there slot stood in
-                leads_so (step.Ask ticket) (Err fault.NoSuchTicket) [] (wrote ∙ sym (append-nil (booked_by book))) w st slot here stood (
-                  inl (inl (no_ticket_asked old.plan w ticket slot (node_seen a.old.mail) named here (ap (λ (s : Slot). s.life) is) (stands_here w slot here is ∙ ap (λ (o : Option plain.Ticket). is_some o) st_none))),
-                  unchanged w slot here (same_slot slot is left_is),
-                ) (record { step_is = refl; said_is = refl; sees = λ unseen. unseen }) (λ v done. tt);
-            cause = λ w st. tt;
-          }
-
       -- it stood
       module _ (ask : code.Ask) (some : result ≡ Some ask) (items : List Entry) (for : AreForTicket ticket (Up a.old) items)
           (wrote : entries_of book' ≡ entries_of book ++ (if confirms (ask_seen ask) then items else [])) where
@@ -273,7 +264,7 @@ module _ {D : Type 0} (on : View D) (ticket : Number) (left_of : Node → plain.
         booked : booked_by book' ≡ booked_by book ++ entries_seen (if confirms (ask_seen ask) then items else [])
         booked = ap entries_seen wrote ∙ entries_more (entries_of book) (if confirms (ask_seen ask) then items else [])
 
-        ask_leads : (x : progress.Ask) → ask_seen ask ≡ x → (w : machine.World) → StateStandsFor on before w → LeadsTo on (Ok (Asked ask)) (step.Ask ticket) before behind w
+        ask_leads : (x : progress.Ask) → ask_seen ask ≡ x → (w : machine.World) → StateStandsFor on before w → LeadsMail on (Ok (Asked ask)) (step.Ask ticket) before behind w
         ask_leads (progress.Ask.Pending got wanted) e w st =
             let (slot, here, stood) = slot_of on old.lives.items old.disks.items w.slots ticket.node ch.life ch.disk st.slots ch.was ch.held in
             let is = seen_there slot stood in
@@ -282,10 +273,10 @@ module _ {D : Type 0} (on : View D) (ticket : Number) (left_of : Node → plain.
             left_out ∙ ap (λ o. asked_out a.old.mail.shape.confirm ticket.seq o (node_seen a.old.mail).tickets) stands
             ∙ ap (λ x. if is_done x then fin.remove (node_seen a.old.mail).tickets ticket.seq else (node_seen a.old.mail).tickets) (answer ∙ e) in
             leads_so (step.Ask ticket) (Ok (Asked ask)) [] (booked ∙ ap (λ x. booked_by book ++ entries_seen (if confirms x then items else [])) e) w st slot here stood (
-              ask_goes old.plan w ticket slot (node_seen a.old.mail) named here (ap (λ (s : Slot). s.life) is) (stands_here w slot here is ∙ ap (λ (o : Option plain.Ticket). is_some o) stands),
-              AnswersAsk.Waits (node_seen a.old.mail) slot.disk t (here ∙ ap Some is) (standing ∙ stands) got wanted
-                  (ap (λ c. ask_of c t) (sym works.0.confirm) ∙ answer ∙ e) (ap steps.Said.Asked e) (unchanged w slot here (same_slot slot is left_is)),
-            ) (record { step_is = refl; said_is = refl; sees = λ unseen. unseen }) (λ v done. tt)
+              ask_goes old.plan w ticket slot (node_seen a.old.mail) named here (ap (λ (s : Slot). s.life) is),
+              inl (AnswersAsk.Waits (node_seen a.old.mail) slot.disk t (here ∙ ap Some is) (standing ∙ stands) got wanted
+                  (ap (λ c. ask_of c t) (sym works.0.confirm) ∙ answer ∙ e) (ap steps.Said.Asked e) (unchanged w slot here (same_slot slot is left_is))),
+            ) (record { step_is = refl; said_is = refl; sees = tt }) (λ v done. tt)
         ask_leads (progress.Ask.Done given) e w st =
             let (slot, here, stood) = slot_of on old.lives.items old.disks.items w.slots ticket.node ch.life ch.disk st.slots ch.was ch.held in
             let is = seen_there slot stood in
@@ -298,11 +289,11 @@ module _ {D : Type 0} (on : View D) (ticket : Number) (left_of : Node → plain.
             let says : entries_seen (if confirms (ask_seen ask) then items else []) ≡ entries_with given t =
             ap (λ x. entries_seen (if confirms x then items else [])) e ∙ entered a.old.mail.shape.confirm t given items made_for (answer ∙ e) in
             leads_so (step.Ask ticket) (Ok (Asked ask)) (entries_with given t) (booked ∙ ap (λ x. booked_by book ++ x) says) w st slot here stood (
-              ask_goes old.plan w ticket slot (node_seen a.old.mail) named here (ap (λ (s : Slot). s.life) is) (stands_here w slot here is ∙ ap (λ (o : Option plain.Ticket). is_some o) stands),
-              AnswersAsk.Ends (node_seen a.old.mail) slot.disk t (here ∙ ap Some is) (standing ∙ stands) given
+              ask_goes old.plan w ticket slot (node_seen a.old.mail) named here (ap (λ (s : Slot). s.life) is),
+              inl (AnswersAsk.Ends (node_seen a.old.mail) slot.disk t (here ∙ ap Some is) (standing ∙ stands) given
                   (ap (λ c. ask_of c t) (sym works.0.confirm) ∙ answer ∙ e) (ap steps.Said.Asked e)
-                  (ap (λ (l : plain.Tickets). record w { slots = with_slot w.slots ticket.node (slot_up (record (node_seen a.old.mail) { tickets = l }) slot.disk); book = w.book ++ entries_with given t }) left_is),
-            ) (record { step_is = refl; said_is = refl; sees = λ unseen. unseen }) (λ v done. tt)
+                  (ap (λ (l : plain.Tickets). record w { slots = with_slot w.slots ticket.node (slot_up (record (node_seen a.old.mail) { tickets = l }) slot.disk); book = w.book ++ entries_with given t }) left_is)),
+            ) (record { step_is = refl; said_is = refl; sees = tt }) (λ v done. tt)
 
         pub ask_done : StepDid on (Ok (Asked ask)) (step.Ask ticket) before behind
         ask_done = record {
@@ -315,32 +306,40 @@ module _ {D : Type 0} (on : View D) (ticket : Number) (left_of : Node → plain.
           told = retold_told;
           quiet = retold_quiet;
           clock = refl;
-          lighter = tt;
+          passed = tt;
           books = (entries_seen (if confirms (ask_seen ask) then items else []), booked);
           kept = tt;
-          leads = λ known ended w st. ask_leads (ask_seen ask) refl w st;
+          leads = λ known ended story v st sound.
+              let stands : is_mail_ticket v ticket ≡ true = stands_in (mail_world_of (whole_world_of v)) st.mail ∙ ap (λ (o : Option plain.Ticket). is_some o) found.1 in
+              lifted on (Ok (Asked ask)) (step.Ask ticket) before behind (even_of old) (even_of new) retold_keeps story v st sound (ask_leads (ask_seen ask) refl (mail_world_of (whole_world_of v)) st.mail)
+              (ask_alike on old.plan before (even_of old) old.all v st.mail ticket fit stands) (λ done. stands);
           cause = λ w st. tt;
         }
 
     -- A ticket is given up.
     module _ (fit : node_refusal old.plan (life_among old) (step.GiveUp ticket) ≡ None) (stood : is_some (ticket_standing a.old.mail ticket) ≡ true) (early : nat_le letters_end flying.sent ≡ false)
         (left_out : left ≡ tickets_without ticket a.old.mail) (same : booked_by book' ≡ booked_by book) where
+      some_ticket : (o : Option plain.Ticket) → is_some o ≡ true → (t : plain.Ticket) × (o ≡ Some t)
+      some_ticket None e = absurd (let never : false ≡ true = e in cc)
+      some_ticket (Some t) e = (t, refl)
+
       ended : (o : Option plain.Ticket) → is_some o ≡ true → ticket_taken_out ticket.seq o (node_seen a.old.mail).tickets ≡ fin.remove (node_seen a.old.mail).tickets ticket.seq
       ended None e = absurd (let never : false ≡ true = e in cc)
       ended (Some t) e = refl
 
-      give_up_leads : (w : machine.World) → StateStandsFor on before w → LeadsTo on (Ok Done) (step.GiveUp ticket) before behind w
+      give_up_leads : (w : machine.World) → StateStandsFor on before w → LeadsMail on (Ok Done) (step.GiveUp ticket) before behind w
       give_up_leads w st =
           let (slot, here, stands) = slot_of on old.lives.items old.disks.items w.slots ticket.node ch.life ch.disk st.slots ch.was ch.held in
           let is = seen_there slot stands in
+          let (t, t_is) = some_ticket (ticket_standing a.old.mail ticket) stood in
           let left_is : left ≡ fin.remove (node_seen a.old.mail).tickets ticket.seq = left_out ∙ ended (ticket_standing a.old.mail ticket) stood in
           let book_is : w.book ++ [] ≡ w.book = append-nil w.book in
           let next_is : ◌≡◌ {A = machine.World} (record w { slots = with_slot w.slots ticket.node (slot_then slot); book = w.book ++ [] }) (after w ticket.node (end_ticket ticket.seq (node_seen a.old.mail) slot.disk)) =
           λ i. record w { slots = with_slot w.slots ticket.node (slot_up (record (node_seen a.old.mail) { tickets = left_is i }) slot.disk); book = book_is i } in
           leads_so (step.GiveUp ticket) (Ok Done) [] (same ∙ sym (append-nil (booked_by book))) w st slot here stands (
-            give_up_goes old.plan w ticket slot (node_seen a.old.mail) named here (ap (λ (s : Slot). s.life) is) (stands_here w slot here is ∙ stood) (ap (nat_le letters_end) (sym st.sent) ∙ early),
-            record { node = node_seen a.old.mail; disk = slot.disk; up = here ∙ ap Some is; said_is = refl; new_world = next_is },
-          ) (record { step_is = refl; said_is = refl; sees = λ unseen. unseen }) (λ v done. tt)
+            give_up_goes old.plan w ticket slot (node_seen a.old.mail) named here (ap (λ (s : Slot). s.life) is) (ap (nat_le letters_end) (sym st.sent) ∙ early),
+            inl (record { node = node_seen a.old.mail; disk = slot.disk; ticket = t; up = here ∙ ap Some is; stands = standing ∙ t_is; said_is = refl; new_world = next_is }),
+          ) (record { step_is = refl; said_is = refl; sees = tt }) (λ v done. tt)
 
       pub give_up_done : StepDid on (Ok Done) (step.GiveUp ticket) before behind
       give_up_done = record {
@@ -353,10 +352,13 @@ module _ {D : Type 0} (on : View D) (ticket : Number) (left_of : Node → plain.
         told = retold_told;
         quiet = retold_quiet;
         clock = refl;
-        lighter = tt;
+        passed = tt;
         books = as_long (booked_by book) (booked_by book') same;
         kept = tt;
-        leads = λ known ended w st. give_up_leads w st;
+        leads = λ known ended story v st sound.
+            let stands : is_mail_ticket v ticket ≡ true = stands_in (mail_world_of (whole_world_of v)) st.mail ∙ stood in
+            lifted on (Ok Done) (step.GiveUp ticket) before behind (even_of old) (even_of new) retold_keeps story v st sound (give_up_leads (mail_world_of (whole_world_of v)) st.mail)
+            (give_up_alike on old.plan before (even_of old) old.all v st.mail ticket fit stands) (λ done. stands);
         cause = λ w st. tt;
       }
 
@@ -393,9 +395,6 @@ module _ {D : Type 0} (on : View D) (ticket : Number) (result : Option code.Ask)
   module _ (flying : InFlight) (seconds : ℕ) (book book' : Book) where
     pub asked_settled : (is_settled : D → Type 0) → AreSettled is_settled (state_with old flying seconds book) → AreSettled is_settled (state_with new flying seconds book')
     asked_settled = retold_settled on ticket (left_once_asked ticket) old new named_asked ready re flying seconds book book'
-
-    pub none_stood : result ≡ None → booked_by book' ≡ booked_by book → StepDid on (Err fault.NoSuchTicket) (step.Ask ticket) (state_with old flying seconds book) (state_with new flying seconds book')
-    none_stood = none_asked on ticket (left_once_asked ticket) old new named_asked ready re flying seconds book book' result fit ch.does.0.answer refl
 
     pub asked_did : (ask : code.Ask) → result ≡ Some ask → (items : List Entry) → AreForTicket ticket (Up ch.does.0.old) items
         → entries_of book' ≡ entries_of book ++ (if confirms (ask_seen ask) then items else []) → StepDid on (Ok (Asked ask)) (step.Ask ticket) (state_with old flying seconds book) (state_with new flying seconds book')
@@ -436,13 +435,19 @@ pub none_of : {X : Type 0} (o : Option X) → ((x : X) → o ≡ Some x → ⊥)
 none_of None h = refl
 none_of (Some x) h = absurd (h x refl)
 
+mail_done : (confirm : ℕ) (o : Option plain.Ticket) (r : Option ReadTicket) → done_at confirm o ≡ true → is_done_of confirm o r ≡ true
+mail_done confirm (Some t) r e = e
+mail_done confirm None r e = absurd (false≢true e)
+
 -- a ticket whose call is done at its node is done in the world
 pub done_in_world : {D : Type 0} (seen : D → Option (List ℕ)) (ticket : Number) (nodes : Nodes D) (flying : InFlight) (seconds : ℕ) (book : Book) → CanWorkOn seen nodes.plan nodes.lives.items nodes.disks.items
     → (life : Life) → of_node nodes.lives.items ticket.node ≡ Some life → IsDoneAt ticket life → is_done_in (state_with nodes flying seconds book) ticket ≡ true
 done_in_world seen ticket nodes flying seconds book ready (Up node) here done =
     let (disk, held) = disk_of nodes.disks.items nodes.lives.items ticket.node (Up node) (nodes.all ∙ sym nodes.disk_each) here in
     let (of, works) = ready_of seen nodes.plan nodes.lives.items nodes.disks.items ready ticket.node node disk here held in
-    ap (λ o. done_at nodes.plan.confirm (standing_on o ticket)) here ∙ ap (λ c. done_at c (ticket_standing node.mail ticket)) (sym of.confirm) ∙ done
+    ap (λ o. is_done_of nodes.plan.confirm (standing_on o ticket) (reading_on o ticket)) here
+    ∙ ap (λ c. is_done_of c (ticket_standing node.mail ticket) (reading_on (Some (Up node)) ticket)) (sym of.confirm)
+    ∙ mail_done node.mail.shape.confirm (ticket_standing node.mail ticket) (reading_on (Some (Up node)) ticket) done
 done_in_world seen ticket nodes flying seconds book ready Down here done = absurd done
 done_in_world seen ticket nodes flying seconds book ready Lost here done = absurd done
 
@@ -455,3 +460,8 @@ entries_done ticket (Up node) entries for some = by _ (done_at node.mail.shape.c
     by X false m = absurd (omega (arith, some, ap length m))
 entries_done ticket Down entries none some = absurd (omega (arith, some, ap length none))
 entries_done ticket Lost entries none some = absurd (omega (arith, some, ap length none))
+
+-- a call of messages that stands has an answer
+pub asked_some : (confirm : ℕ) (o : Option plain.Ticket) (result : Option code.Ask) → is_some o ≡ true → asks_seen result ≡ asks_at confirm o → result ≡ None → ⊥
+asked_some confirm None result stands answer none = false≢true stands
+asked_some confirm (Some ticket) result stands answer none = let never : None ≡ Some (ask_of confirm ticket) = sym (ap asks_seen none) ∙ answer in cc

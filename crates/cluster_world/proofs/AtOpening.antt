@@ -8,7 +8,6 @@ use Rattle.object_model.specs.Lists.{Among}
 use Rattle.object_model.specs.Sets.{has}
 use Rattle.object_model.specs.Letters.{Member, MapRow, Membership}
 use Rattle.cluster_model.specs.Starts.{first_membership}
-use Rattle.cluster_model.specs.WorldLaws.{opening_world}
 use Rattle.maps_model.specs.Cluster as maps
 use Rattle.whole_model.specs.Whole as whole
 use Rattle.whole_model.specs.Whole.{mail_slot, mail_life}
@@ -20,6 +19,7 @@ use Rattle.whole_world.specs.World.{mail_world_of}
 use Rattle.whole_world.specs.Thrown.{is_before}
 use Rattle.whole_world.proofs.Along.{mail_here}
 use Rattle.whole_world.proofs.FirstSettled.{first_settled}
+use Rattle.joint_world.proofs.Opening.{first_all_stand}
 use Rattle.node_store.specs.Disks.{View}
 use Rattle.node_core.specs.Nodes.{node_seen}
 use Rattle.node_core.specs.Owing.{OwesAnother}
@@ -31,14 +31,15 @@ use Rattle.cluster_world.specs.Maps.{StandsForWhole}
 use Rattle.cluster_world.specs.Opens.{IsAtBeginning}
 use Rattle.cluster_world.specs.Rests.{OpeningIsAtRest}
 use Rattle.cluster_world.specs.Settling.{installed_at, later_of, latest_since, latest_in, IsAtRest, IsSettledMember, IsSettledIn}
-use Rattle.cluster_world.specs.Worlds.{WorldState, state_of, StateStandsFor}
+use Rattle.cluster_world.specs.Worlds.{WorldState, state_of, disks_tell}
 use Rattle.cluster_world.specs.declared.life.Life.{Life}
 use Rattle.cluster_world.specs.declared.life.Life.TheVariants.{Up, Down, Lost}
 use Rattle.cluster_world.specs.declared.world.World.{World}
 use Rattle.cluster_world.proofs.Joined.{node_up}
 use Rattle.cluster_world.proofs.AtRest.{rest_is_settled}
 use Rattle.cluster_world.proofs.Still.{some_same, both_at}
-use Rattle.cluster_world.proofs.Wholes.{UpWhole, whole_up, first_world_stands}
+use Rattle.cluster_world.proofs.AtFirst.{first_managers}
+use Rattle.cluster_world.proofs.Wholes.{UpWhole, whole_up}
 
 same_up : (x y : whole.Node) → whole.Life.Up x ≡ whole.Life.Up y → x ≡ y
 same_up x y e = cc
@@ -125,15 +126,17 @@ module _ {D : Type 0} (on : View D) where
   opening_is_at_rest plan world some few begins =
       let rows = first_map plan in
       let g = first_membership plan.nodes rows in
-      let f = first_world_stands plan (omega (arith, few)) in
+      let tells = disks_tell on.seen world in
+      let f = first_all_stand plan tells rows some (omega (arith, few)) (first_managers plan some) in
       let v = first_world plan.nodes rows in
-      let st : StandsForWhole on (state_of world) v = record { mail = subst (StateStandsFor on (state_of world)) (sym f.1) begins.stands; maps = begins.maps } in
+      let sound : Stands plan v = subst (Stands plan) f.1 f.0.whole in
+      let st : StandsForWhole on (state_of world) v = subst (StandsForWhole on (state_of world)) f.1 (record { mail = begins.stands.mail; maps = begins.stands.maps }) in
       let lives = (state_of world).lives in
       let count : length lives ≡ length v.slots = sym st.mail.slots.count ∙ as_many mail_slot v.slots in
       let installed = λ (k : ℕ) (life : Life) (here : slice_get lives k ≡ Some life).
       let (slot, there) = both_at v.slots lives k life count here in
       let up : whole_world.IsUp v (suc k) (first_node plan.nodes rows) (first_slot plan.nodes rows).disk = there ∙ ap Some (first_is plan.nodes rows plan.nodes k slot there) in
-      let h = up_here on plan world v f.0 st (suc k) (first_node plan.nodes rows) (first_slot plan.nodes rows).disk up in
+      let h = up_here on plan world v sound st (suc k) (first_node plan.nodes rows) (first_slot plan.nodes rows).disk up in
       ap installed_at (some_same life (Up h.node) (sym here ∙ h.up)) ∙ ap (λ (y : maps.Node). y.installed) (sym h.maps_are) in
       let long : 0 < length lives = omega (arith, some, world.nodes.all, ap (λ (p : Plan). p.nodes) begins.plan_is) in
-      (rest_is_settled D (state_of world)).1 (settled_here on plan world v f.0 st g (all_latest lives g long installed) (first_settled plan rows) begins.stands.flying)
+      (rest_is_settled D (state_of world)).1 (settled_here on plan world v sound st g (all_latest lives g long installed) (first_settled plan rows) begins.stands.mail.flying)

@@ -13,6 +13,7 @@ use Rattle.node_store.specs.Disks.{View}
 use Rattle.node_core.specs.Nodes.{node_seen, IsNodeOf, IsWhole}
 use Rattle.whole_node.specs.Nodes.{WholeWorks}
 use Rattle.whole_node.specs.declared.node.WholeNode.{WholeNode}
+use Rattle.cluster_world.specs.Keeping.{HasSameReads}
 use Rattle.cluster_world.specs.Lives.{life_seen, of_node, with_node_at, falls_left, all_falls_left, CanWorkOn}
 use Rattle.cluster_world.specs.Stands.{SlotsStand}
 use Rattle.cluster_world.specs.Worlds.{seen_life}
@@ -22,6 +23,7 @@ use Rattle.cluster_world.specs.Noting.{LifeNoted, LifeChanges, LivesNoted, Noted
 use Rattle.cluster_world.specs.declared.life.Life.{Life}
 use Rattle.cluster_world.specs.declared.life.Life.TheVariants.{Up, Down, Lost}
 use Rattle.cluster_world.specs.declared.nodes.Nodes.{Nodes}
+use Rattle.cluster_world.proofs.SameReads.{same_reads, reads_more, tickets_reads}
 use Rattle.cluster_world.proofs.Still.{some_same}
 use Rattle.cluster_world.proofs.Changing.{there, changed_at, set_same}
 use Rattle.cluster_world.proofs.Turning.{up_same}
@@ -68,6 +70,19 @@ maps_as_before kind at number Down Lost n x y e f = absurd n
 maps_as_before kind at number Lost (Up new) n x y e f = absurd n
 maps_as_before kind at number Lost Down n x y e f = absurd n
 
+-- so are its tickets of calls that read, and its locks
+pub beside_as_before : (kind : MishapKind) (at : ℕ) (number : Number) (life life' : Life) → LifeNoted kind at number life life' → (x y : WholeNode) → life ≡ Up x → life' ≡ Up y → HasSameReads x y
+beside_as_before kind at number (Up old) (Up new) n x y e f =
+    reads_more x old y (same_reads x old (up_same old x e)) (reads_more old new y (tickets_reads _ old new n) (same_reads new y (up_same y new (sym f))))
+beside_as_before kind at number Down Down n x y e f = absurd (let never : Down ≡ Up x = e in cc)
+beside_as_before kind at number Lost Lost n x y e f = absurd (let never : Lost ≡ Up x = e in cc)
+beside_as_before kind at number (Up old) Down n x y e f = absurd n
+beside_as_before kind at number (Up old) Lost n x y e f = absurd n
+beside_as_before kind at number Down (Up new) n x y e f = absurd n
+beside_as_before kind at number Down Lost n x y e f = absurd n
+beside_as_before kind at number Lost (Up new) n x y e f = absurd n
+beside_as_before kind at number Lost Down n x y e f = absurd n
+
 -- it works on
 pub works_on : (kind : MishapKind) (at : ℕ) (number : Number) (life life' : Life) → LifeNoted kind at number life life' → (plan : Plan) (own : ℕ) (seen : Option (List ℕ))
     → ((node : WholeNode) → life ≡ Up node → IsNodeOf plan own node.mail × WholeWorks seen node) → (node : WholeNode) → life' ≡ Up node → IsNodeOf plan own node.mail × WholeWorks seen node
@@ -113,6 +128,7 @@ module _ {D : Type 0} (on : View D) (plan : Plan) (kind : MishapKind) where
       disks = d;
       lives = λ n. ap (λ xs. seen_life (of_node xs n)) l;
       maps = λ n x y e f. ap (λ (z : WholeNode). z.maps) (up_same y x (some_same (Up y) (Up x) (sym f ∙ ap (λ xs. of_node xs n) l ∙ e)));
+      beside = λ n x y e f. same_reads x y (up_same y x (some_same (Up y) (Up x) (sym f ∙ ap (λ xs. of_node xs n) l ∙ e)));
       falls = ap all_falls_left l;
       slots = λ slots s. subst (λ xs. SlotsStand on new.lives.items new.disks.items xs) (sym (same slots s)) (subst (λ xs. SlotsStand on xs new.disks.items slots) (sym l) (subst (λ xs. SlotsStand on old.lives.items xs slots) (sym d) s));
     };
@@ -141,6 +157,14 @@ module _ {D : Type 0} (on : View D) (plan : Plan) (kind : MishapKind) where
                 maps_as_before kind at number ch.life ch.life' ch.does.0 x y was is)
                 (λ (other : m ≢ number.node).
                 ap (λ (z : WholeNode). z.maps) (up_same y x (some_same (Up y) (Up x) (sym f ∙ life_else number.node (λ l d l' d'. Noted kind at number D l d l' d') old new ch m other ∙ e))))
+                (same_or m number.node);
+            beside = λ m x y e f. ⊎_elim
+                (λ (same : m ≡ number.node).
+                let was : ch.life ≡ Up x = some_same ch.life (Up x) (sym ch.was ∙ ap (of_node old.lives.items) (sym same) ∙ e) in
+                let is : ch.life' ≡ Up y = some_same ch.life' (Up y) (sym (life_there number.node (λ l d l' d'. Noted kind at number D l d l' d') old new ch) ∙ ap (of_node new.lives.items) (sym same) ∙ f) in
+                beside_as_before kind at number ch.life ch.life' ch.does.0 x y was is)
+                (λ (other : m ≢ number.node).
+                same_reads x y (up_same y x (some_same (Up y) (Up x) (sym f ∙ life_else number.node (λ l d l' d'. Noted kind at number D l d l' d') old new ch m other ∙ e))))
                 (same_or m number.node);
             falls = omega (arith, falls_now number.node (λ l d l' d'. Noted kind at number D l d l' d') old new ch, falls_as_before kind at number ch.life ch.life' ch.does.0);
             slots = λ slots s.
@@ -202,6 +226,9 @@ module _ {D : Type 0} (on : View D) (plan : Plan) where
       maps = λ n x y e f.
           let (z, g) = up_too (of_node old.lives.items n) (of_node mid.lives.items n) x e (a.only.lives n) in
           b.only.maps n z y g f ∙ a.only.maps n x z e g;
+      beside = λ n x y e f.
+          let (z, g) = up_too (of_node old.lives.items n) (of_node mid.lives.items n) x e (a.only.lives n) in
+          reads_more x z y (a.only.beside n x z e g) (b.only.beside n z y g f);
       falls = b.only.falls ∙ a.only.falls;
       slots = λ slots s. b.only.slots (f slots) (a.only.slots slots s);
     };
@@ -209,7 +236,7 @@ module _ {D : Type 0} (on : View D) (plan : Plan) where
   }
 
   pub noticed_none : (nodes : Nodes D) → CanWorkOn on.seen plan nodes.lives.items nodes.disks.items → Noticed on plan (λ slots. slots) nodes nodes
-  noticed_none nodes works = record { only = record { plan = refl; disks = refl; lives = λ n. refl; maps = λ n x y e f. ap (λ (z : WholeNode). z.maps) (up_same y x (some_same (Up y) (Up x) (sym f ∙ e))); falls = refl; slots = λ slots s. s }; works = works }
+  noticed_none nodes works = record { only = record { plan = refl; disks = refl; lives = λ n. refl; maps = λ n x y e f. ap (λ (z : WholeNode). z.maps) (up_same y x (some_same (Up y) (Up x) (sym f ∙ e))); beside = λ n x y e f. same_reads x y (up_same y x (some_same (Up y) (Up x) (sym f ∙ e))); falls = refl; slots = λ slots s. s }; works = works }
 
   pub missed_last : (kind : MishapKind) (letters : List Letter) (letter : Letter) (old new : Nodes D) → Noticed on plan (λ slots. missed kind (all_missed kind slots letters) letter) old new
       → Noticed on plan (λ slots. all_missed kind slots (letters ++ letter ∷ [])) old new
@@ -219,6 +246,7 @@ module _ {D : Type 0} (on : View D) (plan : Plan) where
       disks = n.only.disks;
       lives = n.only.lives;
       maps = n.only.maps;
+      beside = n.only.beside;
       falls = n.only.falls;
       slots = λ slots s. subst (λ xs. SlotsStand on new.lives.items new.disks.items xs) (sym (missed_more kind slots letters letter)) (n.only.slots slots s);
     };

@@ -8,7 +8,7 @@ use Rattle.cluster_model.specs.Cluster as plain
 use Rattle.cluster_model.specs.Rules.{idle}
 use Rattle.cluster_model.specs.World as machine
 use Rattle.cluster_model.specs.Steps as steps
-use Rattle.cluster_model.specs.Steps.{is_node, letters_end, is_worn_for}
+use Rattle.cluster_model.specs.Steps.{is_node, letters_end, is_worn_for, nodes_of_call}
 use Rattle.cluster_model.specs.Makes.{MakesStep}
 use Rattle.node_maps.specs.Nodes.{node_of}
 use Rattle.node_store.specs.Disks.{View}
@@ -24,7 +24,7 @@ use Rattle.world_book.specs.Books.{entries_of}
 use Rattle.world_book.specs.declared.book.Book.{Book}
 use Rattle.world_book.specs.declared.entry.Entry.{Entry}
 use Rattle.world_book.specs.declared.entry.Entry.TheVariants as written
-use Rattle.cluster_world.specs.Begins.{BeginsAt, HasRule, strikes_of_call, GoesOn, Fails, Concludes}
+use Rattle.cluster_world.specs.Begins.{BeginsAt, strikes_of_call, GoesOn, Fails, Concludes}
 use Rattle.cluster_world.specs.Books.{entries_seen, booked_by}
 use Rattle.cluster_world.specs.Changes.{ChangesNode, IsTurnedTo}
 use Rattle.cluster_world.specs.Flights.{InFlight}
@@ -51,12 +51,16 @@ use Rattle.cluster_world.proofs.Beginning.{begin_is_late, begin_is_worn}
 use Rattle.cluster_world.proofs.BeginIdle.{read_stands, read_stops}
 use Rattle.cluster_world.proofs.BeginSteps.{begun_step}
 use Rattle.cluster_world.proofs.BeginFalls.{unsent_step, stopped_step, failed_step}
-use Rattle.cluster_world.proofs.BeginParts.{begin_ready, begin_settles, begin_falls, begin_up, not_up, Began, begin_named, begin_life, begin_did, begin_maps, read_none}
+use Rattle.cluster_world.proofs.BeginParts.{begin_ready, begin_settles, begin_falls, begin_up, not_up, Began, begin_named, begin_life, begin_did, begin_maps, read_none, begin_keeps}
 use Rattle.cluster_world.proofs.Follows.{idle_follows}
 use Rattle.cluster_world.proofs.Told.{IsOfMail}
 use Rattle.cluster_world.proofs.Wholly.{led, even_of}
-use Rattle.cluster_world.proofs.Unchanged.{unchanged_by, node_kept, changes_none}
+use Rattle.cluster_world.proofs.Unchanged.{unchanged_by, memory_kept, changes_none}
 use Rattle.cluster_world.proofs.Longer.{same_book, longer_by}
+use Rattle.cluster_world.proofs.Lifting.{lift}
+use Rattle.cluster_world.proofs.Beside.{alone_keeps, turns_same}
+use Rattle.joint_world.specs.Staying.{IsMailCall}
+use Rattle.joint_world.specs.World.{mail_world_of}
 
 -- where the numbers of letters are used up
 module _ {D : Type 0} (on : View D) (n : ℕ) (call : Call) (seconds : ℕ) (old : Nodes D) (fit : node_refusal old.plan (life_among old) (step.Begin n call) ≡ None) (flying : InFlight) (book : Book)
@@ -76,16 +80,17 @@ module _ {D : Type 0} (on : View D) (n : ℕ) (call : Call) (seconds : ℕ) (old
     told = same_told on (state_with old flying seconds book);
     quiet = same_quiet on (state_with old flying seconds book);
     clock = refl;
-    lighter = tt;
+    passed = tt;
     books = same_book (booked_by book);
     kept = same_unchanged on (state_with old flying seconds book) (step.Begin n call);
-    leads = λ known ended w st.
-        let (node, up) = here_up (of_node old.lives.items n) (fit_of (list_all (is_node old.plan) (n ∷ [])) (Rattle.cluster_world.specs.Turns.life_refusal (step.Begin n call) (life_among old n)) fit).1 in
+    leads = λ known ended story v st sound.
+        let w = mail_world_of v in
+        let (node, up) = here_up (of_node old.lives.items n) (fit_of (list_all (is_node old.plan) (n ∷ nodes_of_call (call_seen call))) (Rattle.cluster_world.specs.Turns.life_refusal (step.Begin n call) (life_among old n)) fit).1 in
         let (disk, held) = disk_of old.disks.items old.lives.items n (Up node) (old.all ∙ sym old.disk_each) up in
-        let (slot, here, stood) = slot_of on old.lives.items old.disks.items w.slots n (Up node) disk st.slots up held in
+        let (slot, here, stood) = slot_of on old.lives.items old.disks.items w.slots n (Up node) disk st.mail.slots up held in
         let (seen, is, s) = stood in
-        led_kept on (state_with old flying seconds book) (Err fault.Worn) (step.Begin n call) w st (record { step_is = refl; said_is = refl; sees = λ unseen. unseen }) (λ done. done)
-        (inl (inl (begin_is_late old.plan w n (call_seen call) slot seen (begin_named n call old fit) here is (ap (nat_le letters_end) (sym st.sent) ∙ late))), refl);
+        led_kept on (state_with old flying seconds book) (Err fault.Worn) (step.Begin n call) v st (record { step_is = refl; said_is = refl; sees = tt }) tt (λ done. done)
+        (inl (inl (begin_is_late old.plan w n (call_seen call) slot seen (begin_named n call old fit) here is (ap (nat_le letters_end) (sym st.mail.sent) ∙ late))), refl);
     cause = λ w st. tt;
   }
 
@@ -101,7 +106,7 @@ module _ {D : Type 0} (on : View D) (is_settled : D → Type 0) (n : ℕ) (call 
   abbrev b : WholeNode
   b = ch.does.0.new
 
-  module _ (flying : InFlight) (book : Book) (early : nat_le letters_end flying.sent ≡ false) where
+  module _ (flying : InFlight) (book : Book) (early : nat_le letters_end flying.sent ≡ false) (mail : IsMailCall (call_seen call)) where
     -- The node is as it was.
     module _ (book' : Book) (wrote : entries_of book' ≡ entries_of book ++ []) where
       abbrev start : WorldState D
@@ -129,11 +134,11 @@ module _ {D : Type 0} (on : View D) (is_settled : D → Type 0) (n : ℕ) (call 
         told = work_told on n B old mid mid ch (λ slots. slots) (nothing_else on mid) flying flying seconds book book' on.seen (ap (λ (o : Option (List ℕ)). is_some o) read.seen);
         quiet = work_quiet on n B old mid mid ch (λ slots. slots) (nothing_else on mid) flying flying seconds book book' on.faults (omega (arith, quiet)) (λ boot now. quiet);
         clock = refl;
-        lighter = tt;
+        passed = tt;
         books = longer_by book book' [] wrote;
         kept = changes_none on why (step.Begin n call) start final (unchanged_by n B old mid ch flying flying seconds seconds book book' on (step.Begin n call)
-            (node_kept ch.life ch.life' a b ch.does.0.was is same) (λ away. absurd (away refl)) (λ _. (read, quiet)) refl refl (ap entries_seen (wrote ∙ append-nil (entries_of book))));
-        leads = λ known ended w st.
+            (memory_kept ch.life ch.life' a b ch.does.0.was is same (ap node_of stay) (turns_same ch.life ch.life' (begin_keeps on is_settled n call seconds old mid fit ready began ch) a b ch.does.0.was is (ap node_of stay))) (λ away. absurd (away refl)) (λ _. (read, quiet)) refl refl (ap entries_seen (wrote ∙ append-nil (entries_of book))));
+        leads = λ known ended. lift on _ _ _ _ (even_of old) (even_of mid) tt (λ v stands done. mail) (alone_keeps n B old mid ch (begin_keeps on is_settled n call seconds old mid fit ready began ch)) (λ w st.
             let (slot, here, stood) = up_slot on n B old mid mid ch (λ x d. idle x d) a ch.does.0.was flying flying seconds book book w st in
             led on (Err why) (step.Begin n call) start final (even_of old) (even_of mid) w st of_mail (λ v seen sound done. tt) (record {
               next = w;
@@ -141,7 +146,7 @@ module _ {D : Type 0} (on : View D) (is_settled : D → Type 0) (n : ℕ) (call 
               made = made w st;
               stops = read_stops on n B old mid mid ch (nothing_else on mid) a ch.does.0.was read flying flying seconds book book' b is same refl w st (booked w st);
               follow = idle_follows on n B old mid mid ch (λ slots. slots) (nothing_else on mid) w.slots slot here w.slots (λ m. refl) a b ch.does.0.was is (ap node_of stay);
-            });
+            }));
         cause = λ w st. tt;
       }
 
@@ -158,15 +163,15 @@ module _ {D : Type 0} (on : View D) (is_settled : D → Type 0) (n : ℕ) (call 
       pub worn_step : began ≡ Err Worn → StepDid on (Err fault.Worn) (step.Begin n call) start final
       worn_step e =
           let did = begin_did on is_settled n call seconds old mid fit ready began ch (Err Worn) e in
-          idle_did fault.Worn (record { step_is = refl; said_is = refl; sees = λ unseen. unseen }) (begin_maps on is_settled n call seconds old mid fit ready began ch (Err Worn) e) (sym fit) tt (λ m. refl) (begin_life on is_settled n call seconds old mid fit ready began ch (Err Worn) e) did.1 (read_none on ch.disk ch.disk' did.2) (ap on.faults did.2) (worn_made did.0)
+          idle_did fault.Worn (record { step_is = refl; said_is = refl; sees = tt }) (begin_maps on is_settled n call seconds old mid fit ready began ch (Err Worn) e) (sym fit) tt (λ m. refl) (begin_life on is_settled n call seconds old mid fit ready began ch (Err Worn) e) did.1 (read_none on ch.disk ch.disk' did.2) (ap on.faults did.2) (worn_made did.0)
 
       pub none_step : began ≡ Err (NoMemory false) → StepDid on (Err (fault.NoMemory None)) (step.Begin n call) start final
       none_step e =
           let did = begin_did on is_settled n call seconds old mid fit ready began ch (Err (NoMemory false)) e in
-          idle_did (fault.NoMemory None) (record { step_is = refl; said_is = refl; sees = λ unseen. unseen }) (begin_maps on is_settled n call seconds old mid fit ready began ch (Err (NoMemory false)) e) tt tt (λ m. refl) (begin_life on is_settled n call seconds old mid fit ready began ch (Err (NoMemory false)) e) did.0 did.1 did.2 (λ w st. refl)
+          idle_did (fault.NoMemory None) (record { step_is = refl; said_is = refl; sees = tt }) (begin_maps on is_settled n call seconds old mid fit ready began ch (Err (NoMemory false)) e) tt tt (λ m. refl) (begin_life on is_settled n call seconds old mid fit ready began ch (Err (NoMemory false)) e) did.0 did.1 did.2 (λ w st. refl)
 
     -- Whatever the node did, and whatever came of it.
-    module _ (rule : HasRule old.plan.nodes (call_seen call)) (entries : List Entry) (struck : entries_seen entries ≡ strikes_of_call (call_seen call)) (roomy : Book) (same_book : entries_of roomy ≡ entries_of book)
+    module _ (entries : List Entry) (struck : entries_seen entries ≡ strikes_of_call (call_seen call)) (roomy : Book) (same_book : entries_of roomy ≡ entries_of book)
         (new : Nodes D) (flying' : InFlight) (book' : Book) (result : Result Said StepFault) where
       abbrev Done : Type 0
       Done = StepDid on result (step.Begin n call) (state_with old flying seconds book) (state_with new flying' seconds book')
@@ -184,18 +189,18 @@ module _ {D : Type 0} (on : View D) (is_settled : D → Type 0) (n : ℕ) (call 
       by_going : (begun : Option Number × Outbox) → began ≡ Ok begun → GoesOn on n entries result mid flying roomy new flying' book' begun.0 begun.1.letters → Done
       by_going begun e (GoesOn.Flies said_is off wrote) =
           subst (λ r. StepDid on r (step.Begin n call) (state_with old flying seconds book) (state_with new flying' seconds book')) (sym said_is)
-          (begun_step on is_settled n call seconds old mid fit ready began ch flying book early rule new flying' book' entries struck (also entries wrote) begun e off)
+          (begun_step on is_settled n call seconds old mid fit ready began ch flying book early mail new flying' book' entries struck (also entries wrote) begun e off)
       by_going begun e (GoesOn.Falls said_is some flies fall wrote) =
           subst (λ r. StepDid on r (step.Begin n call) (state_with old flying seconds book) (state_with new flying' seconds book')) (sym said_is)
           (subst (λ (f : InFlight). StepDid on (Err (fault.NoMemory (Some n))) (step.Begin n call) (state_with old flying seconds book) (state_with new f seconds book')) (sym flies)
-          (unsent_step on is_settled n call seconds old mid fit ready began ch flying book book' entries struck (also (entries ++ written.Down n ∷ []) wrote) new fall begun e some))
+          (unsent_step on is_settled n call seconds old mid fit ready began ch mail flying book book' entries struck (also (entries ++ written.Down n ∷ []) wrote) new fall begun e some))
 
       by_failing : (why : NodeFault) → began ≡ Err why → Fails on n entries result mid flying roomy new flying' book' why → Done
       by_failing Disk e f = moved (Ok (said.Faulted n)) f.said_is f.nodes_are f.flies
-          (failed_step on is_settled n call seconds old mid fit ready began ch flying book book' entries struck (also (entries ++ written.Down n ∷ []) f.wrote) early rule e)
+          (failed_step on is_settled n call seconds old mid fit ready began ch mail flying book book' entries struck (also (entries ++ written.Down n ∷ []) f.wrote) early e)
       by_failing Worn e f = moved (Err fault.Worn) f.said_is f.nodes_are f.flies (worn_step book' (also [] f.wrote) e)
       by_failing (NoMemory true) e f = moved (Err (fault.NoMemory (Some n))) f.said_is f.nodes_are f.flies
-          (stopped_step on is_settled n call seconds old mid fit ready began ch flying book book' entries struck (also (entries ++ written.Down n ∷ []) f.wrote) early rule e)
+          (stopped_step on is_settled n call seconds old mid fit ready began ch mail flying book book' entries struck (also (entries ++ written.Down n ∷ []) f.wrote) early e)
       by_failing (NoMemory false) e f = moved (Err (fault.NoMemory None)) f.said_is f.nodes_are f.flies (none_step book' (also [] f.wrote) e)
 
       done_by : (r : Began) → began ≡ r → Concludes on n entries result mid flying roomy new flying' book' r → Done

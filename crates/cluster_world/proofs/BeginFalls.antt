@@ -20,7 +20,7 @@ use Rattle.cluster_model.specs.Makes.{IsUp, IsFiled, IsWorkCut, NodeGoesDown, Be
 use Rattle.disk_journal.specs.Journal.{TellsJournal}
 use Rattle.node_store.specs.Disks.{View}
 use Rattle.node_store.specs.declared.fault.KeepFault.TheVariants as keep
-use Rattle.node_core.specs.Beginning.{call_seen, at_second, CallDid, CallStopped, CallFailed}
+use Rattle.node_core.specs.Beginning.{call_seen, at_second, CallDid, CallStopped}
 use Rattle.node_core.specs.Nodes.{node_seen, NodeKeeps, end_in}
 use Rattle.node_core.specs.Works.{Rule, NodeDid, IsOnlyRead}
 use Rattle.node_core.specs.declared.fault.NodeFault.TheVariants.{Disk, NoMemory}
@@ -32,13 +32,13 @@ use Rattle.world_book.specs.Books.{entries_of}
 use Rattle.world_book.specs.declared.book.Book.{Book}
 use Rattle.world_book.specs.declared.entry.Entry.{Entry}
 use Rattle.world_book.specs.declared.entry.Entry.TheVariants as written
-use Rattle.cluster_world.specs.Begins.{BeginsAt, HasRule, strikes_of_call}
+use Rattle.cluster_world.specs.Begins.{BeginsAt, strikes_of_call}
 use Rattle.cluster_world.specs.Books.{entries_seen, booked_by}
 use Rattle.cluster_world.specs.Changes.{ChangesNode, IsTurnedTo}
 use Rattle.cluster_world.specs.Flights.{InFlight}
 use Rattle.cluster_world.specs.Lives.{life_seen, CanWorkOn}
 use Rattle.cluster_world.specs.Seen.{outcome_seen}
-use Rattle.cluster_world.specs.Steps.{StepDid, LeadsTo, FaultHasCause, MayReadAmiss, WasToWork, IsRefusedRight, SaysSo, FallsSo, IsLighter, MayMisread, ChangesNothing}
+use Rattle.cluster_world.specs.Steps.{StepDid, FaultHasCause, WasToWork, IsRefusedRight, SaysSo, FallsSo, MayMisread, ChangesNothing, LeadsMail, HasPassed}
 use Rattle.cluster_world.specs.Turns.{node_refusal, life_after_step}
 use Rattle.cluster_world.specs.Worlds.{WorldState, life_among, state_with, tells_in, StateStandsFor}
 use Rattle.cluster_world.specs.declared.life.Life.{Life}
@@ -59,23 +59,13 @@ use Rattle.cluster_world.proofs.BeginParts.{Began, begin_named, begin_life, begi
 use Rattle.cluster_world.proofs.Longer.{longer_by}
 use Rattle.cluster_world.proofs.Told.{IsOfMail}
 use Rattle.cluster_world.proofs.Wholly.{led, even_of}
-
-amiss : (call : Call) (user : List ℕ) (id : _) (from most : ℕ) → call_seen call ≡ Fetch user id from most → MayReadAmiss call
-amiss (kind.Deliver deliver) user id from most e = let never : Deliver (Rattle.mail_base.specs.Delivers.mail_in deliver) ≡ Fetch user id from most = e in cc
-amiss (kind.Login name proof) user id from most e = let never : Login name (proof_seen proof) ≡ Fetch user id from most = e in cc
-amiss (kind.Fetch name other holders first top) user id from most e = tt
-amiss (kind.Strike name items) user id from most e = let never : Strike name (Rattle.node_core.specs.Beginning.struck_of items) ≡ Fetch user id from most = e in cc
-amiss (kind.Leave name login manager) user id from most e = let never : Leave name ≡ Fetch user id from most = e in cc
-
-fetch_rule : (nodes : ℕ) (call : NodeCall) (user : List ℕ) (id : _) (from most : ℕ) → call ≡ Fetch user id from most → HasRule nodes call → nodes ≡ 1
-fetch_rule nodes call user id from most e rule = subst (HasRule nodes) e rule
-
-fetch_kind : (call : NodeCall) (user : List ℕ) (id : _) (from most : ℕ) → call ≡ Fetch user id from most → kind_of_call call ≡ None → ⊥
-fetch_kind call user id from most e none = let never : Some CallKind.Fetching ≡ None = sym (ap kind_of_call e) ∙ none in cc
+use Rattle.cluster_world.proofs.Lifting.{lift}
+use Rattle.cluster_world.proofs.Beside.{alone_keeps}
+use Rattle.joint_world.specs.Staying.{IsMailCall}
 
 -- The node goes down, with these of its records on its disk.
 module _ {D : Type 0} (on : View D) (n : ℕ) (call : Call) (seconds : ℕ) (old new : Nodes D) (fit : node_refusal old.plan (life_among old) (step.Begin n call) ≡ None)
-    (P : Life → D → Life → D → Type 0) (ch : ChangesNode n P old new) (a : WholeNode) (was : ch.life ≡ Up a) (down : ch.life' ≡ Down) (worked : WasToWork old.plan.nodes (step.Begin n call) (life_among old n) n)
+    (P : Life → D → Life → D → Type 0) (ch : ChangesNode n P old new) (a : WholeNode) (was : ch.life ≡ Up a) (down : ch.life' ≡ Down) (worked : WasToWork old.plan.nodes (step.Begin n call) (life_among old n) n) (mail : IsMailCall (call_seen call))
     (told : IsToldAlike (on.seen ch.disk) (on.seen ch.disk')) (later : on.faults ch.disk ≤ on.faults ch.disk')
     (flying : InFlight) (book book' : Book) (entries : List Entry) (struck : entries_seen entries ≡ strikes_of_call (call_seen call)) (wrote : entries_of book' ≡ entries_of book ++ (entries ++ written.Down n ∷ [])) where
   abbrev c : NodeCall
@@ -104,7 +94,7 @@ module _ {D : Type 0} (on : View D) (n : ℕ) (call : Call) (seconds : ℕ) (old
   down_world w disk front pending = cut_world (struck_world w c) n disk front pending
 
   fell_leads : (result : Result Said StepFault) (rule : Rule) (w : machine.World) → StateStandsFor on start w → (k : Cut rule w)
-      → MakesStep old.plan (tells_in on.seen start) w (steps.Step.Begin n c) (outcome_seen result) (down_world w k.disk k.front k.pending) → IsOfMail result (step.Begin n call) → LeadsTo on result (step.Begin n call) start final w
+      → MakesStep old.plan (tells_in on.seen start) w (steps.Step.Begin n c) (outcome_seen result) (down_world w k.disk k.front k.pending) → IsOfMail result (step.Begin n call) → LeadsMail on result (step.Begin n call) start final w
   fell_leads result rule w st k made of_mail = led on result (step.Begin n call) start final (even_of old) (even_of new) w st of_mail (λ v seen sound done. tt) (record {
     next = down_world w k.disk k.front k.pending;
     stands = cut_stands on n P old new new ch rule a was flying flying seconds book book' down (λ slots. slots) (nothing_else on new) w st k w.flying st.flying refl (w.book ++ strikes_of_call c) (booked w st);
@@ -144,9 +134,9 @@ module _ {D : Type 0} (on : View D) (n : ℕ) (call : Call) (seconds : ℕ) (old
 
   fell_did : (result : Result Said StepFault) → IsRefusedRight result (node_refusal old.plan (life_among old) (step.Begin n call)) → IfOk result (SaysSo (step.Begin n call))
       → FallsSo result old.plan.nodes (step.Begin n call) (life_among old) → ((m : ℕ) → life_after_step result (step.Begin n call) m (life_among old m) ≡ turned n life.Down m (life_among old m))
-      → IsLighter result (step.Begin n call) start final → ChangesNothing on result (step.Begin n call) start final → ((w : machine.World) → StateStandsFor on start w → LeadsTo on result (step.Begin n call) start final w)
+      → HasPassed result (step.Begin n call) start final → ChangesNothing on result (step.Begin n call) start final → ((w : machine.World) → StateStandsFor on start w → LeadsMail on result (step.Begin n call) start final w)
       → ((w : machine.World) → StateStandsFor on start w → FaultHasCause on result (step.Begin n call) start final) → StepDid on result (step.Begin n call) start final
-  fell_did result refused kind_so falls lives lighter kept leads cause = record {
+  fell_did result refused kind_so falls lives passed kept leads cause = record {
     plan = ch.plan;
     handed = as_many n P old new ch;
     refused = refused;
@@ -156,10 +146,11 @@ module _ {D : Type 0} (on : View D) (n : ℕ) (call : Call) (seconds : ℕ) (old
     told = told_by n P old new ch flying flying seconds seconds book book' on.seen told;
     quiet = quiet_by n P old new ch flying flying seconds seconds book book' on.faults later (λ boot now. absurd (let never : life.Down ≡ life.Up boot = sym (ap life_seen down) ∙ now in cc));
     clock = refl;
-    lighter = lighter;
+    passed = passed;
     books = longer_by book book' (entries ++ written.Down n ∷ []) wrote;
     kept = kept;
-    leads = λ known ended w st. leads w st;
+    leads = λ known ended. lift on result (step.Begin n call) start final (even_of old) (even_of new) tt (λ v stands done. mail)
+        (alone_keeps n P old new ch (λ b up. absurd (let never : Down ≡ Up b = sym down ∙ up in cc))) leads;
     cause = cause;
   }
 
@@ -170,15 +161,15 @@ module _ {D : Type 0} (on : View D) (n : ℕ) (call : Call) (seconds : ℕ) (old
       (λ w st.
       let (octets, filed, k) = cuts w st in
       fell_leads (Err (fault.NoMemory (Some n))) (begin_rule octets) w st k
-      (RunsShort.Beginning c (node_seen a.mail) k.disk octets refl (up_now (begin_rule octets) w k) (filed_now octets w st filed) (goes_down octets w st k)) (record { step_is = refl; said_is = refl; sees = λ unseen. unseen }))
+      (RunsShort.Beginning c (node_seen a.mail) k.disk octets refl (up_now (begin_rule octets) w k) (filed_now octets w st filed) (goes_down octets w st k)) (record { step_is = refl; said_is = refl; sees = tt }))
       (λ w st. tt)
 
-  caused : (risen : Rose (on.faults ch.disk) (on.faults ch.disk') ⊎ ((on.seen ch.disk ≡ None) × MayMisread (step.Begin n call))) → FaultHasCause on (Ok (said.Faulted n)) (step.Begin n call) start final
+  caused : (risen : Rose (on.faults ch.disk) (on.faults ch.disk') ⊎ ((on.seen ch.disk ≡ None) × MayMisread flying.flights (step.Begin n call))) → FaultHasCause on (Ok (said.Faulted n)) (step.Begin n call) start final
   caused risen = λ d d' e e'.
       let d_is : ch.disk ≡ d = some_same ch.disk d (sym ch.held ∙ e) in
       let d'_is : ch.disk' ≡ d' = some_same ch.disk' d' (sym (disk_there n P old new ch) ∙ e') in
-      subst (λ x. Rose (on.faults d) (on.faults x) ⊎ ((on.seen d ≡ None) × MayMisread (step.Begin n call))) d'_is
-      (subst (λ x. Rose (on.faults x) (on.faults ch.disk') ⊎ ((on.seen x ≡ None) × MayMisread (step.Begin n call))) d_is risen)
+      subst (λ x. Rose (on.faults d) (on.faults x) ⊎ ((on.seen d ≡ None) × MayMisread flying.flights (step.Begin n call))) d'_is
+      (subst (λ x. Rose (on.faults x) (on.faults ch.disk') ⊎ ((on.seen x ≡ None) × MayMisread flying.flights (step.Begin n call))) d_is risen)
 
   -- Its disk failed as it wrote.
   pub failed_did : nat_le letters_end flying.sent ≡ false → is_worn_for old.plan seconds (node_seen a.mail) c ≡ false → Rose (on.faults ch.disk) (on.faults ch.disk')
@@ -189,35 +180,13 @@ module _ {D : Type 0} (on : View D) (n : ℕ) (call : Call) (seconds : ℕ) (old
       let k = cuts w st in
       let up = up_now (begin_rule octets) w k in
       fell_leads (Ok (said.Faulted n)) (begin_rule octets) w st k
-      (goes_now early fresh w st k.disk up, BeginsCall.FailsInIt (node_seen a.mail) k.disk octets up (filed_now octets w st filed) refl (goes_down octets w st k)) (record { step_is = refl; said_is = refl; sees = λ unseen. unseen }))
+      (goes_now early fresh w st k.disk up, inl (BeginsCall.FailsInIt (node_seen a.mail) k.disk octets up (filed_now octets w st filed) refl (goes_down octets w st k))) (record { step_is = refl; said_is = refl; sees = tt }))
       (λ w st. caused (inl rose))
-
-  -- Its disk failed as it was read.
-  pub unread_did : nat_le letters_end flying.sent ≡ false → HasRule old.plan.nodes c → fails_at_once old.plan seconds (node_seen a.mail) c ≡ false → is_worn_for old.plan seconds (node_seen a.mail) c ≡ false → (user : List ℕ) (id : _) (from most : ℕ) → c ≡ Fetch user id from most
-      → IsOnlyRead on ch.disk ch.disk' → (on.seen ch.disk ≡ None) ⊎ Rose (on.faults ch.disk) (on.faults ch.disk')
-      ⊎ ((records : List Record) → NodeKeeps records a.mail → TellsJournal (on.seen ch.disk) n (payloads_of records) (end_in a.mail) → ⊥)
-      → StepDid on (Ok (said.Faulted n)) (step.Begin n call) start final
-  unread_did early rule goes fresh user id from most called read cause = fell_did (Ok (said.Faulted n)) (sym fit) (fault_so call n (fetch_kind c user id from most called)) worked (λ m. refl) tt tt
-      (λ w st.
-      let f = read_fell on n P old new new ch (nothing_else on new) a was read flying flying seconds book book' w st in
-      let k : Cut (λ x d. idle x d) w = f.cut in
-      let up = up_now (λ x d. idle x d) w k in
-      fell_leads (Ok (said.Faulted n)) (λ x d. idle x d) w st k (
-        goes_now early fresh w st k.disk up,
-        BeginsCall.FailsReading (node_seen a.mail) k.disk user id from most up (fetch_rule old.plan.nodes c user id from most called rule)
-            (ap (λ s. fails_at_once old.plan s (node_seen a.mail) c) (sym st.seconds) ∙ goes) called refl
-            (ap (λ xs. cut_world (struck_world w c) n k.disk xs k.pending) f.front_is ∙ ap (λ xs. cut_world (struck_world w c) n k.disk [] xs) f.pending_is
-            ∙ ap (λ (x : machine.World). cut_world x n k.disk [] []) (ap (λ (bk : List BookEntry). record w { book = bk }) (ap (λ xs. w.book ++ xs) (ap strikes_of_call called) ∙ append-nil w.book))),
-      ) (record { step_is = refl; said_is = refl; sees = λ unseen. unseen }))
-      (λ w st.
-      let (slot, here, stood) = up_slot on n P old new new ch (λ x d. idle x d) a was flying flying seconds book book' w st in
-      let (seen, is, s) = stood in
-      caused (⊎_elim (λ none. inr (none, amiss call user id from most called)) (λ other. ⊎_elim (λ rose. inl rose) (λ never. absurd (never slot.disk s.keeps s.tells)) other) cause))
 
 -- Its letters found no memory.
 module _ {D : Type 0} (on : View D) (is_settled : D → Type 0) (n : ℕ) (call : Call) (seconds : ℕ) (old mid : Nodes D)
     (fit : node_refusal old.plan (life_among old) (step.Begin n call) ≡ None) (ready : CanWorkOn on.seen old.plan old.lives.items old.disks.items) (began : Began)
-    (ch : ChangesNode n (BeginsAt on is_settled old.plan n seconds (call_seen call) began) old mid)
+    (ch : ChangesNode n (BeginsAt on is_settled old.plan n seconds (call_seen call) began) old mid) (mail : IsMailCall (call_seen call))
     (flying : InFlight) (book book' : Book) (entries : List Entry) (struck : entries_seen entries ≡ strikes_of_call (call_seen call)) (wrote : entries_of book' ≡ entries_of book ++ (entries ++ written.Down n ∷ [])) where
   abbrev B : Life → D → Life → D → Type 0
   B = BeginsAt on is_settled old.plan n seconds (call_seen call) began
@@ -256,40 +225,31 @@ module _ {D : Type 0} (on : View D) (is_settled : D → Type 0) (n : ℕ) (call 
       work_undone on n (AreThese ch.life Down ch.disk ch.disk') old new new both (λ x d. begun_by old.plan (at_second seconds) n x d (call_seen call) octets) a both_was flying flying seconds book book' b letters
           (on_both (λ d d'. NodeDid on (λ x r. begun_by old.plan (at_second seconds) n x r (call_seen call) octets) a.mail d b.mail d' letters) did) w st,
     )
-    unsent_cut ticket letters some w st (CallDid.Reads kind found of_kind goes those t did) =
-        let (slot, here, stood) = up_slot on n B old mid mid ch (λ x d. idle x d) a ch.does.0.was flying flying seconds book book w st in
-        absurd (no_letters letters (did.out slot.disk (stood.2).keeps) some)
-    unsent_cut ticket letters some w st (CallDid.Leaves user called t none same disk) = absurd (no_letters letters (sym none) some)
 
     pub unsent_step : (begun : Option Number × Outbox) → began ≡ Ok begun → 1 ≤ length begun.1.letters
         → StepDid on (Err (fault.NoMemory (Some n))) (step.Begin n call) (state_with old flying seconds book) (state_with new flying seconds book')
     unsent_step begun e some =
         let s : StaysUp on is_settled n call seconds old mid fit ready began ch = begin_stays on is_settled n call seconds old mid fit ready began ch begun e in
-        short_did on n call seconds old new fit (AreThese ch.life Down ch.disk ch.disk') both a both_was both.does.life_is (begin_worked on is_settled n call seconds old mid fit ready began ch)
+        short_did on n call seconds old new fit (AreThese ch.life Down ch.disk ch.disk') both a both_was both.does.life_is (begin_worked on is_settled n call seconds old mid fit ready began ch) mail
         (on_both (λ d d'. IsToldAlike (on.seen d) (on.seen d')) s.told)
         (on_both (λ d d'. on.faults d ≤ on.faults d') (omega (arith, s.quiet)))
         flying book book' entries struck wrote
         (λ w st. unsent_cut begun.0 begun.1.letters some w st (begin_did on is_settled n call seconds old mid fit ready began ch (Ok begun) e).did)
 
   -- the node stopped, or its disk was not read
-  module _ (early : nat_le letters_end flying.sent ≡ false) (rule : HasRule old.plan.nodes (call_seen call)) where
+  module _ (early : nat_le letters_end flying.sent ≡ false) where
     pub stopped_step : began ≡ Err (NoMemory true) → StepDid on (Err (fault.NoMemory (Some n))) (step.Begin n call) (state_with old flying seconds book) (state_with mid flying seconds book')
     stopped_step e =
         let s : CallStopped on old.plan n seconds (call_seen call) a.mail ch.disk b.mail ch.disk' keep.NoMemory = begin_did on is_settled n call seconds old mid fit ready began ch (Err (NoMemory true)) e in
         short_did on n call seconds old mid fit B ch a ch.does.0.was (begin_life on is_settled n call seconds old mid fit ready began ch (Err (NoMemory true)) e)
-        (begin_worked on is_settled n call seconds old mid fit ready began ch) s.stopped.stops.told s.fails
+        (begin_worked on is_settled n call seconds old mid fit ready began ch) mail s.stopped.stops.told s.fails
         flying book book' entries struck wrote
         (λ w st. (s.octets, s.filed, work_stopped on n B old mid mid ch (λ x d. begun_by old.plan (at_second seconds) n x d (call_seen call) s.octets) a ch.does.0.was flying flying seconds book book' s.stopped w st))
 
-    by_failure : ch.life' ≡ Down → CallFailed on old.plan n seconds (call_seen call) a.mail ch.disk b.mail ch.disk' → StepDid on (Ok (said.Faulted n)) (step.Begin n call) (state_with old flying seconds book) (state_with mid flying seconds book')
-    by_failure down (CallFailed.Working s) =
-        failed_did on n call seconds old mid fit B ch a ch.does.0.was down (begin_worked on is_settled n call seconds old mid fit ready began ch) s.stopped.stops.told s.fails.0
+    pub failed_step : began ≡ Err Disk → StepDid on (Ok (said.Faulted n)) (step.Begin n call) (state_with old flying seconds book) (state_with mid flying seconds book')
+    failed_step e =
+        let s : CallStopped on old.plan n seconds (call_seen call) a.mail ch.disk b.mail ch.disk' keep.Disk = begin_did on is_settled n call seconds old mid fit ready began ch (Err Disk) e in
+        failed_did on n call seconds old mid fit B ch a ch.does.0.was (begin_life on is_settled n call seconds old mid fit ready began ch (Err Disk) e)
+        (begin_worked on is_settled n call seconds old mid fit ready began ch) mail s.stopped.stops.told s.fails.0
         flying book book' entries struck wrote early s.fresh s.fails.1 s.octets s.filed
         (λ w st. work_stopped on n B old mid mid ch (λ x d. begun_by old.plan (at_second seconds) n x d (call_seen call) s.octets) a ch.does.0.was flying flying seconds book book' s.stopped w st)
-    by_failure down (CallFailed.Reading user id from most called goes fresh r) =
-        unread_did on n call seconds old mid fit B ch a ch.does.0.was down (begin_worked on is_settled n call seconds old mid fit ready began ch)
-        (ap (λ (o : Option (List ℕ)). is_some o) r.read.seen) r.later
-        flying book book' entries struck wrote early rule goes fresh user id from most called r.read r.cause
-
-    pub failed_step : began ≡ Err Disk → StepDid on (Ok (said.Faulted n)) (step.Begin n call) (state_with old flying seconds book) (state_with mid flying seconds book')
-    failed_step e = by_failure (begin_life on is_settled n call seconds old mid fit ready began ch (Err Disk) e) (begin_did on is_settled n call seconds old mid fit ready began ch (Err Disk) e)

@@ -11,18 +11,18 @@ use Rattle.io_edge.proofs.Passing.{keeps_none}
 use Rattle.mail_model.specs.Plan.{Plan}
 use Rattle.object_model.specs.Letters.{Number, Letter}
 use Rattle.session_model.specs.Events.{NodeLife as life}
-use Rattle.cluster_model.specs.Steps.{NodeCall, is_node}
+use Rattle.cluster_model.specs.Steps.{NodeCall, is_node, nodes_of_call}
 use Rattle.node_store.specs.Disks.{View}
 use Rattle.node_store.specs.Appends.{Fails}
 use Rattle.node_store.specs.declared.fault.KeepFault.{KeepFault}
 use Rattle.node_store.specs.declared.fault.KeepFault.TheVariants as keep
-use Rattle.node_core.specs.Beginning.{IsTextEnded, call_seen, CallDid, CallStopped, CallFailed, NodeBegins}
+use Rattle.node_core.specs.Beginning.{IsTextEnded, call_seen, CallDid, CallStopped, NodeBegins}
 use Rattle.node_core.specs.Nodes.{node_seen, IsNodeOf, IsAsBefore}
 use Rattle.node_core.specs.Spelling.{AllCanBeTaken}
 use Rattle.node_core.specs.Works.{Rule, NodeDid, IsOnlyRead, LeavesUp}
 use Rattle.node_core.specs.declared.fault.NodeFault.{NodeFault}
 use Rattle.node_core.specs.declared.fault.NodeFault.TheVariants.{Disk, Worn, NoMemory}
-use Rattle.whole_node.specs.Nodes.{WholeWorks}
+use Rattle.whole_node.specs.Nodes.{WholeWorks, joint_seen}
 use Rattle.whole_node.specs.declared.node.WholeNode.{WholeNode}
 use Rattle.node_core.specs.declared.outbox.Outbox.{Outbox}
 use Rattle.call_tickets.specs.declared.call.Call.{Call}
@@ -30,7 +30,7 @@ use Rattle.node_maps.specs.Nodes.{own_of}
 use Rattle.whole_node.specs.Following.{FollowsCall}
 use Rattle.whole_node.specs.Hearing.{FitsMaps}
 use Rattle.cluster_world.specs.Hears.{AllCanBeHeard}
-use Rattle.cluster_world.specs.Begins.{BeginsAt, HasRule}
+use Rattle.cluster_world.specs.Begins.{BeginsAt}
 use Rattle.cluster_world.specs.Changes.{ChangesNode}
 use Rattle.cluster_world.specs.Lives.{life_seen, of_node, falls_left, all_falls_left, CanWorkOn}
 use Rattle.cluster_world.specs.Steps.{WasToWork}
@@ -48,6 +48,9 @@ use Rattle.cluster_world.proofs.Asked.{ready_of}
 use Rattle.cluster_world.proofs.FlightLaws.{all_heard}
 use Rattle.cluster_world.proofs.Turned.{still_ready, falls_now}
 use Rattle.cluster_world.proofs.Refusing.{fit_of}
+use Rattle.cluster_world.proofs.Beside.{turns_keep}
+use Rattle.joint_world.specs.Staying.{KeepsReads}
+use Rattle.cluster_world.specs.Keeping.{joint_life}
 
 -- the answer of a node
 abbrev pub Began : Type 0
@@ -60,9 +63,9 @@ begin_up n call (Some (Up node)) l e h = (node, some_same l (Up node) (sym e))
 begin_up n call (Some Down) l e h = absurd (let never : Some fault.NodeDown ≡ None = h in cc)
 begin_up n call (Some Lost) l e h = absurd (let never : Some fault.NodeLost ≡ None = h in cc)
 
-pub within_of : (plan : Plan) (n : ℕ) → list_all (is_node plan) (n ∷ []) ≡ true → (1 ≤ n) × (n ≤ plan.nodes)
-within_of plan n named =
-    let is : is_node plan n ≡ true = (and_parts (is_node plan n) true named).0 in
+pub within_of : (plan : Plan) (n : ℕ) (more : List ℕ) → list_all (is_node plan) (n ∷ more) ≡ true → (1 ≤ n) × (n ≤ plan.nodes)
+within_of plan n more named =
+    let is : is_node plan n ≡ true = (and_parts (is_node plan n) (list_all (is_node plan) more) named).0 in
     (grind (arith, nat_tests), grind (arith, nat_tests))
 
 pub not_up : (node : WholeNode) → Down ≡ Up node → ⊥
@@ -71,19 +74,16 @@ not_up node e = cc
 pub up_same : (x y : WholeNode) → Up x ≡ Up y → x ≡ y
 up_same x y e = cc
 
-pub none_fit : AllCanBeTaken []
-none_fit = λ k d within. absurd (omega (arith, within))
-
 -- a disk that was not called was read, and no more
 pub read_none : {D : Type 0} (on : View D) (before after : D) → after ≡ before → IsOnlyRead on before after
 read_none on before after e = subst (λ d. IsOnlyRead on before d) (sym e) (record { seen = refl; images = keeps_none on.clock before })
 
 module _ {D : Type 0} (n : ℕ) (call : Call) (old : Nodes D) (fit : node_refusal old.plan (life_among old) (step.Begin n call) ≡ None) where
-  pub begin_named : list_all (is_node old.plan) (n ∷ []) ≡ true
-  begin_named = (fit_of (list_all (is_node old.plan) (n ∷ [])) (life_refusal (step.Begin n call) (life_among old n)) fit).0
+  pub begin_named : list_all (is_node old.plan) (n ∷ nodes_of_call (call_seen call)) ≡ true
+  begin_named = (fit_of (list_all (is_node old.plan) (n ∷ nodes_of_call (call_seen call))) (life_refusal (step.Begin n call) (life_among old n)) fit).0
 
   begin_fits : life_refusal (step.Begin n call) (life_among old n) ≡ None
-  begin_fits = (fit_of (list_all (is_node old.plan) (n ∷ [])) (life_refusal (step.Begin n call) (life_among old n)) fit).1
+  begin_fits = (fit_of (list_all (is_node old.plan) (n ∷ nodes_of_call (call_seen call))) (life_refusal (step.Begin n call) (life_among old n)) fit).1
 
   -- the node and its disk, that there are
   pub begin_there : (seen : D → Option (List ℕ)) → CanWorkOn seen old.plan old.lives.items old.disks.items → (l : Life) → of_node old.lives.items n ≡ Some l → (disk : D) → of_node old.disks.items n ≡ Some disk
@@ -93,15 +93,11 @@ module _ {D : Type 0} (n : ℕ) (call : Call) (old : Nodes D) (fit : node_refusa
       let (of, can) = ready_of seen old.plan old.lives.items old.disks.items works n node disk (here ∙ ap Some up) held in
       (node, up, of, can)
 
--- the plan of nodes that are lent
-pub rule_of : {D : Type 0} (lent old : Nodes D) → lent ≡ old → (call : NodeCall) → HasRule lent.plan.nodes call → HasRule old.plan.nodes call
-rule_of {D} lent old same call rule = subst (λ (x : Nodes D). HasRule x.plan.nodes call) same rule
-
 -- the node and its disk at their place, where the nodes are lent
 module _ {D : Type 0} (on : View D) (n : ℕ) (call : Call) (lent old : Nodes D) (same : lent ≡ old) (fit : node_refusal old.plan (life_among old) (step.Begin n call) ≡ None)
     (ready : CanWorkOn on.seen old.plan old.lives.items old.disks.items) (k : ℕ) (at : k + 1 ≡ n) (l dl : Life) (d dd : D) (read : l ≡ get_or lent.lives.items k dl) (held : d ≡ get_or lent.disks.items k dd) where
   within : k < old.plan.nodes
-  within = omega (arith, at, (within_of old.plan n (begin_named n call old fit)).1)
+  within = omega (arith, at, (within_of old.plan n (nodes_of_call (call_seen call)) (begin_named n call old fit)).1)
 
   life_here : slice_get old.lives.items k ≡ Some l
   life_here = slice_get-get_or old.lives.items k dl (omega (arith, within, old.all)) ∙ ap Some (sym (read ∙ ap (λ (x : Nodes D). get_or x.lives.items k dl) same))
@@ -117,9 +113,9 @@ module _ {D : Type 0} (on : View D) (n : ℕ) (call : Call) (lent old : Nodes D)
 
   pub begin_changed : (is_settled : D → Type 0) (seconds : ℕ) (began : Began) (l' : Life) (d' : D) (new : Nodes D) → new.plan ≡ lent.plan → new.lives.items ≡ slice_set lent.lives.items k l'
       → new.disks.items ≡ slice_set lent.disks.items k d' → IsTextEnded (call_seen call)
-      → TurnsBy on.seen (λ result one before other after. (plan : Plan) (own : ℕ) → IsNodeOf plan own one → lent.plan.users ≡ plan.users → IsTextEnded (call_seen call)
+      → TurnsBy on.seen (λ result one before other after. (plan : Plan) (own : ℕ) → IsNodeOf plan own one → IsTextEnded (call_seen call)
       → NodeBegins on plan own seconds (call_seen call) one before other after result)
-      (λ result one before other after. (plan : Plan) (own : ℕ) → IsNodeOf plan own one.mail → lent.plan.users ≡ plan.users → FollowsCall on plan own seconds (call_seen call) result one before other after) began l d l' d'
+      (λ result one before other after. (plan : Plan) (own : ℕ) → IsNodeOf plan own one.mail → FollowsCall on plan own seconds (call_seen call) result one before other after) began l d l' d'
       → (LeavesUp began → is_settled d → is_settled d') → ChangesNode n (BeginsAt on is_settled old.plan n seconds (call_seen call) began) old new
   begin_changed is_settled seconds began l' d' new plan_is lives_are disks_are ended turns settled =
       let (node, up, of, can) = up_there in
@@ -130,8 +126,9 @@ module _ {D : Type 0} (on : View D) (n : ℕ) (call : Call) (lent old : Nodes D)
           old = turns.old;
           new = turns.new;
           was = turns.was;
-          did = turns.did old.plan n (subst (λ (x : WholeNode). IsNodeOf old.plan n x.mail) mine of) (ap (λ (x : Nodes D). x.plan.users) same) ended;
-          maps = turns.maps old.plan n (subst (λ (x : WholeNode). IsNodeOf old.plan n x.mail) mine of) (ap (λ (x : Nodes D). x.plan.users) same);
+          did = turns.did old.plan n (subst (λ (x : WholeNode). IsNodeOf old.plan n x.mail) mine of) ended;
+          maps = turns.maps old.plan n (subst (λ (x : WholeNode). IsNodeOf old.plan n x.mail) mine of);
+          beside = turns.beside;
           is = turns.is;
           works = turns.works;
         },
@@ -165,6 +162,12 @@ module _ {D : Type 0} (on : View D) (is_settled : D → Type 0) (n : ℕ) (call 
   -- what became of its maps
   pub begin_maps : (r : Began) → began ≡ r → FollowsCall on old.plan n seconds (call_seen call) r a ch.disk b ch.disk'
   begin_maps r e = subst (λ (x : Began). FollowsCall on old.plan n seconds (call_seen call) x a ch.disk b ch.disk') e ch.does.0.maps
+
+  -- and of its tickets of calls that read
+  pub begin_keeps : (node : WholeNode) → ch.life' ≡ Up node → KeepsReads (joint_life ch.life) (joint_seen node)
+  begin_keeps = turns_keep on.seen (λ result one before other after. NodeBegins on old.plan n seconds (call_seen call) one before other after result)
+      (λ result one before other after. FollowsCall on old.plan n seconds (call_seen call) result one before other after)
+      began ch.life ch.disk ch.life' ch.disk' ch.does.0
 
   pub begin_own : own_of a.maps ≡ n
   begin_own = begin_works.1.maps.own ∙ begin_works.0.own_is
@@ -217,9 +220,6 @@ module _ {D : Type 0} (on : View D) (is_settled : D → Type 0) (n : ℕ) (call 
       → CallDid on old.plan n seconds (call_seen call) a.mail ch.disk b.mail ch.disk' ticket sent → StaysUp
   up_begun ticket sent is settles can (CallDid.AtOnce kind of_kind fails t did) = up_by _ sent is settles can did
   up_begun ticket sent is settles can (CallDid.Goes octets fails filed t did) = up_by _ sent is settles can did
-  up_begun ticket sent is settles can (CallDid.Reads kind found of_kind goes those t did) = up_by _ sent is settles can did
-  up_begun ticket sent is settles can (CallDid.Leaves user called t none same disk) =
-      up_as_before is settles can same (read_none on ch.disk ch.disk' disk) (ap on.faults disk)
 
   later_by : (fault : KeepFault) (x y : ℕ) → Fails fault x y → x ≤ y
   later_by keep.Disk x y f = f.0
@@ -228,14 +228,9 @@ module _ {D : Type 0} (on : View D) (is_settled : D → Type 0) (n : ℕ) (call 
   down_by : (fault : KeepFault) → ch.life' ≡ Down → CallStopped on old.plan n seconds (call_seen call) a.mail ch.disk b.mail ch.disk' fault → FellDown
   down_by fault is s = record { is = is; told = s.stopped.stops.told; later = later_by fault (on.faults ch.disk) (on.faults ch.disk') s.fails }
 
-  down_failed : ch.life' ≡ Down → CallFailed on old.plan n seconds (call_seen call) a.mail ch.disk b.mail ch.disk' → FellDown
-  down_failed is (CallFailed.Working s) = down_by keep.Disk is s
-  down_failed is (CallFailed.Reading user id from most called goes fresh r) =
-      record { is = is; told = ap (λ (o : Option (List ℕ)). is_some o) r.read.seen; later = r.later }
-
   by_case : (r : Began) → began ≡ r → ch.life' ≡ life_left r b → NodeBegins on old.plan n seconds (call_seen call) a.mail ch.disk b.mail ch.disk' r → StaysUp ⊎ FellDown
   by_case (Ok begun) e is did = inl (up_begun begun.0 begun.1.letters is (settles_by (Ok begun) e tt) (works_by (Ok begun) e tt) did.did)
-  by_case (Err Disk) e is did = inr (down_failed is did)
+  by_case (Err Disk) e is did = inr (down_by keep.Disk is did)
   by_case (Err Worn) e is did = inl (up_as_before is (settles_by (Err Worn) e tt) (works_by (Err Worn) e tt) did.1 (read_none on ch.disk ch.disk' did.2) (ap on.faults did.2))
   by_case (Err (NoMemory true)) e is did = inr (down_by keep.NoMemory is did)
   by_case (Err (NoMemory false)) e is did = inl (up_as_before is (settles_by (Err (NoMemory false)) e tt) (works_by (Err (NoMemory false)) e tt) did.0 did.1 did.2)
@@ -250,8 +245,6 @@ module _ {D : Type 0} (on : View D) (is_settled : D → Type 0) (n : ℕ) (call 
   fits_by : (ticket : Option Number) (sent : List Letter) → CallDid on old.plan n seconds (call_seen call) a.mail ch.disk b.mail ch.disk' ticket sent → AllCanBeTaken sent
   fits_by ticket sent (CallDid.AtOnce kind of_kind fails t did) = did.fits
   fits_by ticket sent (CallDid.Goes octets fails filed t did) = did.fits
-  fits_by ticket sent (CallDid.Reads kind found of_kind goes those t did) = did.fits
-  fits_by ticket sent (CallDid.Leaves user called t none same disk) = subst AllCanBeTaken (sym none) none_fit
 
   pub begin_heard : (r : Began) → began ≡ r → IfOk r (λ begun. All FitsMaps begun.1.letters) → IfOk r (λ begun. AllCanBeHeard begun.1.letters)
   begin_heard (Ok begun) e fits = all_heard begun.1.letters (fits_by begun.0 begun.1.letters (begin_did (Ok begun) e).did) fits
@@ -287,9 +280,9 @@ module _ {D : Type 0} (on : View D) (is_settled : D → Type 0) (n : ℕ) (call 
       omega (arith, same, ap falls_left begin_was, falls_by begin_case)
 
   pub begin_within : n ≤ mid.plan.nodes
-  begin_within = subst (λ (p : Plan). n ≤ p.nodes) (sym ch.plan) (within_of old.plan n (begin_named n call old fit)).1
+  begin_within = subst (λ (p : Plan). n ≤ p.nodes) (sym ch.plan) (within_of old.plan n (nodes_of_call (call_seen call)) (begin_named n call old fit)).1
 
   pub begin_worked : WasToWork old.plan.nodes (step.Begin n call) (life_among old n) n
   begin_worked =
-      let (above, within) = within_of old.plan n (begin_named n call old fit) in
+      let (above, within) = within_of old.plan n (nodes_of_call (call_seen call)) (begin_named n call old fit) in
       record { above = above; within = within; worked = inl ((node_seen a.mail).boot, ap seen_life ch.was ∙ ap life_seen begin_was) }

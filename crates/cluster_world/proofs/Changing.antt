@@ -74,3 +74,18 @@ retold_at left_of n k old new l l' d at a b read p e f retold =
     let (x, held) = there old.disks.items k b in
     changed_at n k (IsRetoldOn left_of) old new l l' x x at (slice_get-get_or old.lives.items k d a ∙ ap Some (sym read)) held p e
     (f ∙ sym (set_same old.disks.items k x held)) (retold, refl)
+
+-- what is asked of a node of the plan is known of the life at its place
+pub life_up_at : (P : Life → Type 0) (lives : List Life) (n k : ℕ) (l d : Life) → k + 1 ≡ n → k < length lives → l ≡ get_or lives k d → IfSome (of_node lives n) P → P l
+life_up_at P lives n k l d at within read up =
+    let here : of_node lives n ≡ Some l = node_at lives n k at ∙ slice_get-get_or lives k d within ∙ ap Some (sym read) in
+    subst (λ o. IfSome o P) here up
+
+-- its life was changed so, and its disk not touched
+pub life_changed_at : {D : Type 0} (P : Life → Life → Type 0) (n k : ℕ) (old new : Nodes D) (l l' d : Life) → k + 1 ≡ n → k < length old.lives.items → k < length old.disks.items
+    → l ≡ get_or old.lives.items k d → new.plan ≡ old.plan → new.lives.items ≡ slice_set old.lives.items k l' → new.disks.items ≡ old.disks.items → P l l'
+    → ChangesNode n (λ one disk other disk'. P one other × (disk' ≡ disk)) old new
+life_changed_at P n k old new l l' d at a b read p e f did =
+    let (x, held) = there old.disks.items k b in
+    changed_at n k (λ one disk other disk'. P one other × (disk' ≡ disk)) old new l l' x x at (slice_get-get_or old.lives.items k d a ∙ ap Some (sym read)) held p e
+    (f ∙ sym (set_same old.disks.items k x held)) (did, refl)

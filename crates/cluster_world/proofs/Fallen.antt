@@ -21,7 +21,7 @@ use Rattle.cluster_world.specs.Stands.{SlotStands}
 use Rattle.cluster_world.specs.Worlds.{seen_life, life_among, state_with, StateStandsFor}
 use Rattle.cluster_world.specs.Changes.{ChangesNode, IsTurnedTo}
 use Rattle.cluster_world.specs.Turns.{life_refusal, node_refusal}
-use Rattle.cluster_world.specs.Steps.{StepDid, AreSettled, LeadsTo}
+use Rattle.cluster_world.specs.Steps.{StepDid, AreSettled, LeadsMail}
 use Rattle.cluster_world.specs.declared.life.Life.{Life}
 use Rattle.cluster_world.specs.declared.life.Life.TheVariants.{Up, Down, Lost}
 use Rattle.cluster_world.specs.declared.nodes.Nodes.{Nodes}
@@ -34,6 +34,8 @@ use Rattle.cluster_world.proofs.Falling.{crash_up, lose_here, fallen, fall_told,
 use Rattle.cluster_world.proofs.Longer.{longer_by}
 use Rattle.cluster_world.proofs.Follows.{MapsFollow, fall_follows}
 use Rattle.cluster_world.proofs.Wholly.{led, even_of}
+use Rattle.cluster_world.proofs.Lifting.{lift}
+use Rattle.cluster_world.proofs.Beside.{alone_keeps}
 
 -- a node that is up is not lost
 up_alive : (slot : Slot) (seen : plain.Node) → slot.life ≡ plain.Life.Up seen → slot.life ≢ plain.Life.Lost
@@ -109,21 +111,22 @@ module _ {D : Type 0} (on : View D) (n : ℕ) (old new : Nodes D) (book book' : 
             (subst (λ d. on.faults ch.disk ≤ on.faults d) (sym ch.does.1) (omega arith))
             (λ boot up. absurd (let never : life.Down ≡ life.Up boot = sym (ap life_seen ch.does.0) ∙ up in cc));
         clock = refl;
-        lighter = tt;
+        passed = tt;
         books = longer_by book book' (written.Down n ∷ []) wrote;
         kept = tt;
-        leads = λ known ended w st. crash_leads wrote w st;
+        leads = λ known ended. lift on _ _ _ _ (even_of old) (even_of new) tt (λ v stands done. tt)
+            (alone_keeps n (IsTurnedTo Down) old new ch (λ b up. absurd (let never : Down ≡ Up b = sym ch.does.0 ∙ up in cc))) (crash_leads wrote);
         cause = λ w st. tt;
       }
         where
           crash_leads : entries_of book' ≡ entries_of book ++ written.Down n ∷ [] → (w : machine.World) → StateStandsFor on (state_with old flying seconds book) w
-              → LeadsTo on (Ok Done) (step.Crash n) (state_with old flying seconds book) (state_with new flying seconds book') w
+              → LeadsMail on (Ok Done) (step.Crash n) (state_with old flying seconds book) (state_with new flying seconds book') w
           crash_leads wrote w st =
               let (slot, here, stood) = slot_of on old.lives.items old.disks.items w.slots n ch.life ch.disk st.slots ch.was ch.held in
               let (node, up) = was_up in
               let ((seen, is), fits, holds) = fallen on n ch.disk slot node (subst (λ l. SlotStands on n l ch.disk slot) up stood) in
               let (next, stands, made, stops) = fall_leads on n Down (plain.Life.Down []) refl old new ch flying seconds book book' steps.Said.Finished (step.Crash n) (written.Down n) wrote w st slot here (up_alive slot seen is) stood ([], refl, fits, holds) in
-              led on (Ok Done) (step.Crash n) (state_with old flying seconds book) (state_with new flying seconds book') (even_of old) (even_of new) w st (record { step_is = refl; said_is = refl; sees = λ unseen. unseen }) (λ v same sound done. tt) (record {
+              led on (Ok Done) (step.Crash n) (state_with old flying seconds book) (state_with new flying seconds book') (even_of old) (even_of new) w st (record { step_is = refl; said_is = refl; sees = tt }) (λ v same sound done. tt) (record {
                 next = next;
                 stands = stands;
                 made = (crash_goes old.plan w n slot named here seen is, record { slot = slot; here = here; was = up_alive slot seen is; said_is = refl; new_world = made });

@@ -1,6 +1,6 @@
 -- A world that is opened.
 use Rattle.std.proofs.Common.{◌≡◌, ◌≢◌, ◌⊎◌, inl, inr, ⊎_elim, ℕ, zero, suc, ◌+◌, ◌<◌, ◌≤◌, List, [], ◌∷◌, ◌++◌, length, length-append, get_or, Option, Some, None, Ok, Err, refl, sym, ap, ◌∙◌, subst, arith}
-use Rattle.std.specs.Prelude.{IfSome, is_some, slice_get, slice_set}
+use Rattle.std.specs.Prelude.{IfSome, is_some, map, slice_get, slice_set}
 use Rattle.std.proofs.lemmas.Option.{slice_get_cases, slice_get_within, slice_get-get_or}
 use Rattle.io_edge.specs.Moments.{IsOnly}
 use Rattle.io_edge.specs.Octets.{IsToldAlike}
@@ -16,6 +16,8 @@ use Rattle.cluster_model.specs.WorldLaws.{fresh_slot, fresh_slots}
 use Rattle.disk_journal.specs.Journal.{EndsAt}
 use Rattle.whole_model.specs.Whole as whole
 use Rattle.whole_world.specs.First.{first_node, first_slot, first_slots}
+use Rattle.joint_model.specs.Joint as joint
+use Rattle.joint_world.specs.First.{first_node as joint_first_node, first_slot as joint_first_slot, first_slots as joint_first_slots}
 use Rattle.node_maps.specs.Nodes.{node_of}
 use Rattle.node_store.specs.Disks.{View}
 use Rattle.node_core.specs.Nodes.{end_in, IsNodeOf}
@@ -26,7 +28,7 @@ use Rattle.world_book.specs.Books.{entries_of}
 use Rattle.cluster_world.specs.Books.{entries_seen}
 use Rattle.cluster_world.specs.Installs.{installs_in}
 use Rattle.cluster_world.specs.Lives.{of_node, CanWorkOn}
-use Rattle.cluster_world.specs.Maps.{AreMaps}
+use Rattle.cluster_world.specs.Maps.{AreMaps, HasReads, AreReads}
 use Rattle.cluster_world.specs.Opens.{AreHandedOn, Opened, OpenFails, Refused, IsOpenedOn, OpensNext, NextComes, AreOpened}
 use Rattle.cluster_world.specs.Stands.{SlotStands, SlotsStand}
 use Rattle.cluster_world.specs.Worlds.{seen_life}
@@ -202,6 +204,20 @@ first_at nodes map zero k slot e = absurd (let never : None ≡ Some slot = e in
 first_at nodes map (suc m) zero slot e = some_same slot (first_slot nodes map) (sym e)
 first_at nodes map (suc m) (suc k) slot e = first_at nodes map m k slot e
 
+joint_first_at : (nodes : ℕ) (map : List MapRow) (m k : ℕ) (slot : joint.Slot) → slice_get (joint_first_slots nodes map m) k ≡ Some slot → slot ≡ joint_first_slot nodes map
+joint_first_at nodes map zero k slot e = absurd (let never : None ≡ Some slot = e in cc)
+joint_first_at nodes map (suc m) zero slot e = some_same slot (joint_first_slot nodes map) (sym e)
+joint_first_at nodes map (suc m) (suc k) slot e = joint_first_at nodes map m k slot e
+
+-- what messages, membership and maps see of them
+whole_first : (nodes : ℕ) (rows : List MapRow) (m : ℕ) → map joint.whole_slot (joint_first_slots nodes rows m) ≡ first_slots nodes rows m
+whole_first nodes rows zero = refl
+whole_first nodes rows (suc m) = ap (λ l. first_slot nodes rows ∷ l) (whole_first nodes rows m)
+
+mail_first : (nodes : ℕ) (rows : List MapRow) (m : ℕ) → map whole.mail_slot (first_slots nodes rows m) ≡ fresh_slots nodes rows m
+mail_first nodes rows zero = refl
+mail_first nodes rows (suc m) = ap (λ l. fresh_slot nodes rows ∷ l) (mail_first nodes rows m)
+
 module _ {D : Type 0} (on : View D) (is_settled : D → Type 0) (only : (disk : D) → is_settled disk → IfSome (on.seen disk) (λ held. IsOnly on.clock disk held)) (plan : Plan) where
   fresh_stands : (n : ℕ) (life : Life) (before after : D) → IsOpenedOn on is_settled plan n life before after → SlotStands on n life after (fresh_slot plan.nodes (first_map plan))
   fresh_stands n life before after o =
@@ -241,7 +257,7 @@ module _ {D : Type 0} (on : View D) (is_settled : D → Type 0) (only : (disk : 
       each = λ k node disk a b.
           let (d, so) = opened_at k (Up node) disk a b in
           let same : so.node ≡ node = up_is so.node node (sym so.is) in
-          subst (λ (x : WholeNode). IsNodeOf plan (suc k) x.mail × WholeWorks (on.seen disk) x) same (so.first.mail.of_plan, record { mail = so.first.mail.works; maps = so.first.maps.has_maps });
+          subst (λ (x : WholeNode). IsNodeOf plan (suc k) x.mail × WholeWorks (on.seen disk) x) same (so.first.mail.of_plan, record { mail = so.first.mail.works; maps = so.first.maps.has_maps; reads = so.first.maps.reads });
     }
 
     -- their maps are those of the first epoch
@@ -262,6 +278,28 @@ module _ {D : Type 0} (on : View D) (is_settled : D → Type 0) (only : (disk : 
             same_up seen (first_node plan.nodes (first_map plan)) (sym is ∙ ap (λ (s : whole.Slot). s.life) (first_at plan.nodes (first_map plan) plan.nodes k slot here)) in
             ap (λ (x : whole.Node). x.maps) seen_is ∙ sym so.first.maps_are ∙ ap (λ (x : WholeNode). node_of x.maps) same
 
+    -- they have no tickets of calls that read, and no locks
+    pub opened_reads : AreReads lives (joint_first_slots plan.nodes (first_map plan) plan.nodes)
+    opened_reads = record { each = at }
+      where
+        same_up : (x y : joint.Node) → joint.Life.Up x ≡ joint.Life.Up y → x ≡ y
+        same_up x y e = cc
+
+        at : (n : ℕ) (node : WholeNode) (slot : joint.Slot) (seen : joint.Node) → of_node lives n ≡ Some (Up node) → joint.slot_at (joint_first_slots plan.nodes (first_map plan) plan.nodes) n ≡ Some slot → slot.life ≡ joint.Life.Up seen
+            → HasReads node seen
+        at zero node slot seen up here is = absurd (let never : None ≡ Some (Up node) = up in cc)
+        at (suc k) node slot seen up here is =
+            let (disk, held) = both_at new lives k (Up node) (all ∙ sym o.handed) up in
+            let (d, so) = opened_at k (Up node) disk up held in
+            let same : so.node ≡ node = up_is so.node node (sym so.is) in
+            let seen_is : seen ≡ joint_first_node plan.nodes (first_map plan) =
+            same_up seen (joint_first_node plan.nodes (first_map plan)) (sym is ∙ ap (λ (s : joint.Slot). s.life) (joint_first_at plan.nodes (first_map plan) plan.nodes k slot here)) in
+            let blank = so.first.maps.blank in
+            subst (λ (x : WholeNode). HasReads x seen) same (record {
+              reads = ap (λ (x : joint.Node). x.reads) seen_is ∙ sym blank.none;
+              locks = ap (λ (x : joint.Node). x.locks) seen_is ∙ sym blank.free;
+            })
+
     pub opened_handed : AreHandedOn on.seen old new
     opened_handed = record { count = o.handed; told = λ k d d' a b. (told_of on is_settled plan lives old new o k d d' a b).0 }
 
@@ -275,21 +313,34 @@ module _ {D : Type 0} (on : View D) (is_settled : D → Type 0) (only : (disk : 
         let (d, so) = opened_at k l disk here b in
         so.settled
 
+    abbrev slots : List joint.Slot
+    slots = joint_first_slots plan.nodes (first_map plan) plan.nodes
+
+    abbrev mails : List plain.Slot
+    mails = map whole.mail_slot (map joint.whole_slot slots)
+
+    mails_are : mails ≡ fresh_slots plan.nodes (first_map plan) plan.nodes
+    mails_are = ap (map whole.mail_slot) (whole_first plan.nodes (first_map plan) plan.nodes) ∙ mail_first plan.nodes (first_map plan) plan.nodes
+
     pub opened_world : (world : World D) → world.nodes.plan ≡ plan → world.nodes.lives.items ≡ lives → world.nodes.disks.items ≡ new → world.flying.flights ≡ [] → world.flying.sent ≡ 0 → entries_of world.book ≡ []
-        → world.seconds ≡ 0 → world.steps ≡ 0 → length lives ≡ plan.nodes → Opened on is_settled plan old world
-    opened_world world plan_is lives_are disks_are none_fly none_sent none_written first_second no_steps many = record {
+        → world.seconds ≡ 0 → world.steps ≡ 0 → length lives ≡ plan.nodes → 1 ≤ plan.nodes → Opened on is_settled plan old world
+    opened_world world plan_is lives_are disks_are none_fly none_sent none_written first_second no_steps many some = record {
       begins = record {
         plan_is = plan_is;
+        some = some;
         steps = no_steps;
         stands = record {
-          slots = subst (λ ds. SlotsStand on world.nodes.lives.items ds (fresh_slots plan.nodes (first_map plan) plan.nodes)) (sym disks_are)
-              (subst (λ ls. SlotsStand on ls new (fresh_slots plan.nodes (first_map plan) plan.nodes)) (sym lives_are) (opened_slots many));
-          flying = none_fly;
-          sent = none_sent;
-          seconds = first_second;
-          book = ap entries_seen none_written;
+          mail = record {
+            slots = subst (λ ds. SlotsStand on world.nodes.lives.items ds mails) (sym disks_are) (subst (λ ls. SlotsStand on ls new mails) (sym lives_are)
+                (subst (λ l. SlotsStand on lives new l) (sym mails_are) (opened_slots many)));
+            flying = none_fly;
+            sent = none_sent;
+            seconds = first_second;
+            book = ap entries_seen none_written;
+          };
+          maps = subst (λ ls. AreMaps ls (map joint.whole_slot slots)) (sym lives_are) (subst (λ l. AreMaps lives l) (sym (whole_first plan.nodes (first_map plan) plan.nodes)) opened_maps);
+          reads = subst (λ ls. AreReads ls slots) (sym lives_are) opened_reads;
         };
-        maps = subst (λ ls. AreMaps ls (first_slots plan.nodes (first_map plan) plan.nodes)) (sym lives_are) opened_maps;
         ready = subst (λ p. CanWorkOn on.seen p world.nodes.lives.items world.nodes.disks.items) (sym plan_is)
             (subst (λ ds. CanWorkOn on.seen plan world.nodes.lives.items ds) (sym disks_are) (subst (λ ls. CanWorkOn on.seen plan ls new) (sym lives_are) opened_ready));
         installs = ap installs_in none_written;

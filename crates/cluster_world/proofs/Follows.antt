@@ -1,5 +1,5 @@
 -- The maps of nodes that are up, as records are appended in a step for messages.
-use Rattle.std.proofs.Common.{◌≡◌, ◌≢◌, ◌⊎◌, inl, inr, ⊎_elim, ℕ, zero, suc, List, [], ◌∷◌, ◌++◌, length, drop, append-nil, Option, Some, None, refl, sym, ap, ◌∙◌, subst}
+use Rattle.std.proofs.Common.{◌≡◌, ◌≢◌, ⊎_elim, ℕ, zero, suc, List, [], ◌∷◌, ◌++◌, length, drop, Option, Some, None, refl, sym, ap, ◌∙◌}
 use Rattle.std.specs.Prelude.{Bool, true, false, nat_eq, if◌then◌else◌}
 use Rattle.std.specs.FinMap as fin
 use Rattle.mail_model.specs.Record.{Record}
@@ -24,6 +24,7 @@ use Rattle.cluster_world.specs.Missing.{all_missed, OnlyTickets}
 use Rattle.cluster_world.specs.declared.life.Life.{Life}
 use Rattle.cluster_world.specs.declared.life.Life.TheVariants.{Up}
 use Rattle.cluster_world.specs.declared.nodes.Nodes.{Nodes}
+use Rattle.cluster_world.proofs.SameReads.{same_reads}
 use Rattle.cluster_world.proofs.Still.{some_same}
 use Rattle.cluster_world.proofs.Turning.{up_same}
 use Rattle.cluster_world.proofs.Turned.{same_or, slot_other, life_there, life_else}
@@ -160,7 +161,7 @@ rule_follows rule n a b records added own follow keeps grew =
 
 -- nothing is noted
 pub only_none : {D : Type 0} (on : View D) (nodes : Nodes D) → OnlyTickets on (λ slots. slots) nodes nodes
-only_none on nodes = record { plan = refl; disks = refl; lives = λ n. refl; maps = lives_same nodes.lives.items; falls = refl; slots = λ slots s. s }
+only_none on nodes = record { plan = refl; disks = refl; lives = λ n. refl; maps = lives_same nodes.lives.items; beside = λ n a b e f. same_reads a b (up_same b a (some_same (Up b) (Up a) (sym f ∙ e))); falls = refl; slots = λ slots s. s }
 
 -- One node was changed, and none besides.
 pub alone_follows : {D : Type 0} (on : View D) (n : ℕ) (P : Life → D → Life → D → Type 0) (old new : Nodes D) (ch : ChangesNode n P old new) (before : List Slot) (slot slot' : Slot) → slot_at before n ≡ Some slot

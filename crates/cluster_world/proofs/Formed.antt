@@ -45,6 +45,7 @@ use Rattle.node_core.specs.declared.outbox.Why.TheVariants as why
 use Rattle.node_maps.specs.Nodes.{node_of}
 use Rattle.node_store.specs.Disks.{View}
 use Rattle.whole_node.specs.declared.node.WholeNode.{WholeNode}
+use Rattle.joint_world.specs.World.{whole_world_of}
 use Rattle.cluster_world.specs.Flights.{AreInOrder}
 use Rattle.cluster_world.specs.Lives.{of_node, life_seen}
 use Rattle.cluster_world.specs.Maps.{StandsForWhole}
@@ -64,11 +65,12 @@ use Rattle.cluster_world.specs.declared.step.Said.TheVariants as said
 use Rattle.cluster_world.specs.declared.step.Step.{Step}
 use Rattle.cluster_world.specs.declared.step.Step.TheVariants as step
 use Rattle.cluster_world.specs.declared.world.World.{World}
+use Rattle.cluster_world.proofs.Leading.{same_whole}
 use Rattle.cluster_world.proofs.Joined.{node_up}
 use Rattle.cluster_world.proofs.Mirrors.{IsOf}
 use Rattle.cluster_world.proofs.Numbers.{are_numbered}
 use Rattle.cluster_world.proofs.Still.{some_same, both_at}
-use Rattle.cluster_world.proofs.Wholes.{UpWhole, whole_up, StepsWhole, step_whole, is_of_next}
+use Rattle.cluster_world.proofs.Wholes.{as_whole, UpWhole, whole_up, StepsWhole, step_whole, is_of_next}
 
 -- what a step said that went on is no fault in the machine
 pub fine_of : (what : Said) (n : ℕ) → has_failed (Ok what) ≡ false → whole_said what ≢ Told (MailFaulted n)
@@ -210,7 +212,7 @@ module _ {D : Type 0} (on : View D) (plan : Plan) (told : Bool) where
   record OnePosted (number : ℕ) (result : Result Said StepFault) (v : whole_world.World) (from to : World D) : Type 0 where
     what : whole_steps.Said
     ends : IsWhole on plan to
-    made : MakesStep plan told v (OfMessages (MailPost (number + 1) false)) (Says what) ends.v
+    made : MakesStep plan told v (OfMessages (MailPost (number + 1) false)) (Says what) (whole_world_of ends.v)
     fine : (n : ℕ) → what ≢ Told (MailFaulted n)
     old_there_is : was_old result ≡ true → what ≡ ThrownOld
     old_here_is : what ≡ ThrownOld → was_old result ≡ true
@@ -218,18 +220,18 @@ module _ {D : Type 0} (on : View D) (plan : Plan) (told : Bool) where
     lives_stay : (m : ℕ) → life_of to m ≡ life_of from m
 
   one_post : (number : ℕ) (result : Result Said StepFault) (from to : World D) → IsOf on plan told from → IsStep on result (step.Post (number + 1) false) from to → has_failed result ≡ false → (h : IsWhole on plan from)
-      → OnePosted number result h.v from to
+      → OnePosted number result (whole_world_of h.v) from to
   one_post number (Err reason) from to of is fine h = absurd (true≢false fine)
   one_post number (Ok what) from to of is fine h =
-      let s = step_whole on plan told (Ok what) (step.Post (number + 1) false) from to of (inr tt) tt is h.v h.sound h.charted h.stands in
+      let s = step_whole on plan told (Ok what) (step.Post (number + 1) false) from to of (inr tt) tt is h in
       record {
         what = whole_said what;
-        ends = record { v = s.now; sound = s.sound; charted = s.charted; stands = s.stands };
+        ends = s.whole;
         made = s.made;
         fine = λ n. fine_of what n fine;
         old_there_is = old_there what;
         old_here_is = old_here what;
-        rises = post_sent plan told h.v s.now h.sound (number + 1) (whole_said what) s.made (λ n. fine_of what n fine);
+        rises = post_sent plan told (whole_world_of h.v) (whole_world_of s.whole.v) h.sound.whole (number + 1) (whole_said what) s.made (λ n. fine_of what n fine);
         lives_stay = λ m. is.did.lives m ∙ post_lives what (number + 1) false m (life_of from m) fine;
       }
 
@@ -237,7 +239,7 @@ module _ {D : Type 0} (on : View D) (plan : Plan) (told : Bool) where
   record Posted (number count : ℕ) (steps : List StepMade) (v : whole_world.World) (from to : World D) : Type 0 where
     saids : List whole_steps.Said
     ends : IsWhole on plan to
-    each : PostsEach plan told v number saids ends.v
+    each : PostsEach plan told v number saids (whole_world_of ends.v)
     count_is : length saids ≡ count
     old_there_is : list_any threw_old steps ≡ true → Among ThrownOld saids
     old_here_is : Among ThrownOld saids → list_any threw_old steps ≡ true
@@ -255,10 +257,10 @@ module _ {D : Type 0} (on : View D) (plan : Plan) (told : Bool) where
   either_here false b what saids f g (inr m) = g m
 
   posts : (number count : ℕ) (steps : List StepMade) (from to : World D) → IsOf on plan told from → MakesSteps on steps from to → map (λ one. one.step) steps ≡ posts_behind number count → AllWentOn steps → (h : IsWhole on plan from)
-      → Posted number count steps h.v from to
+      → Posted number count steps (whole_world_of h.v) from to
   posts number zero [] from to of made all well h = record {
     saids = [];
-    ends = record { v = h.v; sound = h.sound; charted = h.charted; stands = subst (λ (w : World D). StandsForWhole on (state_of w) h.v) (sym made) h.stands };
+    ends = same_whole on plan from to made h;
     each = refl;
     count_is = refl;
     old_there_is = λ e. absurd (true≢false (sym e));
@@ -277,7 +279,7 @@ module _ {D : Type 0} (on : View D) (plan : Plan) (told : Bool) where
       record {
         saids = p.what ∷ q.saids;
         ends = q.ends;
-        each = (p.ends.v, p.made, p.fine, q.each);
+        each = (whole_world_of p.ends.v, p.made, p.fine, q.each);
         count_is = ap suc q.count_is;
         old_there_is = either_there (threw_old one) (list_any threw_old more) p.what q.saids p.old_there_is q.old_there_is;
         old_here_is = either_here (threw_old one) (list_any threw_old more) p.what q.saids p.old_here_is q.old_here_is;
@@ -288,7 +290,7 @@ module _ {D : Type 0} (on : View D) (plan : Plan) (told : Bool) where
 
   -- letters that stand behind those of one world, up to those of another
   all_posted : (before after : World D) (old : Bool) (from to : World D) (steps : List StepMade) → IsOf on plan told from → AreAllPosted on before after old from to steps → (h : IsWhole on plan from)
-      → Posted (sent_in before) (sent_in after - sent_in before) steps h.v from to
+      → Posted (sent_in before) (sent_in after - sent_in before) steps (whole_world_of h.v) from to
   all_posted before after old from to steps of posted h = posts (sent_in before) (sent_in after - sent_in before) steps from to of posted.made posted.all posted.well h
 
   -- a round
@@ -296,19 +298,19 @@ module _ {D : Type 0} (on : View D) (plan : Plan) (told : Bool) where
     epoch : EpochId
     saids : List whole_steps.Said
     ends : IsWhole on plan to
-    made : Round plan told v n epoch saids ends.v
+    made : Round plan told v n epoch saids (whole_world_of ends.v)
     old_there_is : again ≡ true → Among ThrownOld saids
     old_here_is : Among ThrownOld saids → again ≡ true
     lives_stay : (m : ℕ) → life_of to m ≡ life_of from m
     of : IsOf on plan told to
 
-  round_made : (n : ℕ) (again : Bool) (old new : World D) (steps : List StepMade) → IsOf on plan told old → IsRound on n again old new steps → (h : IsWhole on plan old) → RoundMade n again h.v old new
+  round_made : (n : ℕ) (again : Bool) (old new : World D) (steps : List StepMade) → IsOf on plan told old → IsRound on n again old new steps → (h : IsWhole on plan old) → RoundMade n again (whole_world_of h.v) old new
   round_made n again old new steps of r h =
       let (epoch, group_is) = grouped n r.group r.opened.did.kind r.opens_well in
       let is : IsStep on (Ok (said.Grouped epoch)) (step.Group n) old r.asked = subst (λ (g : Said). IsStep on (Ok g) (step.Group n) old r.asked) group_is r.opened in
-      let s = step_whole on plan told (Ok (said.Grouped epoch)) (step.Group n) old r.asked of (inr tt) tt is h.v h.sound h.charted h.stands in
-      let up = open_sent plan told h.v s.now n epoch s.made in
-      let a : IsWhole on plan r.asked = record { v = s.now; sound = s.sound; charted = s.charted; stands = s.stands } in
+      let s = step_whole on plan told (Ok (said.Grouped epoch)) (step.Group n) old r.asked of (inr tt) tt is h in
+      let up = open_sent plan told (whole_world_of h.v) (whole_world_of s.whole.v) n epoch s.made in
+      let a : IsWhole on plan r.asked = s.whole in
       let p = all_posted old r.asked again r.asked r.heard r.asks (is_of_next on plan told (Ok (said.Grouped epoch)) (step.Group n) old r.asked of is) r.posted a in
       let q = all_posted r.asked r.heard r.late r.heard new r.answers p.of r.answered p.ends in
       record {
@@ -316,14 +318,14 @@ module _ {D : Type 0} (on : View D) (plan : Plan) (told : Bool) where
         saids = p.saids;
         ends = q.ends;
         made = record {
-          opened = s.now;
-          asked = p.ends.v;
+          opened = (whole_world_of s.whole.v);
+          asked = (whole_world_of p.ends.v);
           answers = q.saids;
           opens = s.made;
-          asks = subst (λ (k : ℕ). PostsEach plan told s.now k p.saids p.ends.v) h.stands.mail.sent p.each;
-          all_asked = all_sent (sent_in old) (sent_in r.asked) h.v.sent s.now.sent (length p.saids) h.stands.mail.sent s.stands.mail.sent up p.count_is;
-          hears = subst (λ (k : ℕ). PostsEach plan told p.ends.v k q.saids q.ends.v) s.stands.mail.sent q.each;
-          all_heard = all_sent (sent_in r.asked) (sent_in r.heard) s.now.sent p.ends.v.sent (length q.saids) s.stands.mail.sent p.ends.stands.mail.sent p.rises q.count_is;
+          asks = subst (λ (k : ℕ). PostsEach plan told (whole_world_of s.whole.v) k p.saids (whole_world_of p.ends.v)) h.stands.mail.sent p.each;
+          all_asked = all_sent (sent_in old) (sent_in r.asked) (whole_world_of h.v).sent (whole_world_of s.whole.v).sent (length p.saids) h.stands.mail.sent s.whole.stands.mail.sent up p.count_is;
+          hears = subst (λ (k : ℕ). PostsEach plan told (whole_world_of p.ends.v) k q.saids (whole_world_of q.ends.v)) s.whole.stands.mail.sent q.each;
+          all_heard = all_sent (sent_in r.asked) (sent_in r.heard) (whole_world_of s.whole.v).sent (whole_world_of p.ends.v).sent (length q.saids) s.whole.stands.mail.sent p.ends.stands.mail.sent p.rises q.count_is;
         };
         old_there_is = λ e. p.old_there_is (sym r.posted.threw ∙ e);
         old_here_is = λ m. r.posted.threw ∙ p.old_here_is m;
@@ -334,24 +336,24 @@ module _ {D : Type 0} (on : View D) (plan : Plan) (told : Bool) where
   -- the conclusion
   record ConclusionMade (n : ℕ) (epoch : EpochId) (members : ℕ) (v : whole_world.World) (from to : World D) : Type 0 where
     ends : IsWhole on plan to
-    made : ConcludesAll plan told v n epoch members ends.v
+    made : ConcludesAll plan told v n epoch members (whole_world_of ends.v)
     lives_stay : (m : ℕ) → life_of to m ≡ life_of from m
 
   conclusion_made : (n : ℕ) (epoch : EpochId) (members : ℕ) (old new : World D) (steps : List StepMade) → IsOf on plan told old → IsConclusion on n epoch members old new steps → (h : IsWhole on plan old)
-      → ConclusionMade n epoch members h.v old new
+      → ConclusionMade n epoch members (whole_world_of h.v) old new
   conclusion_made n epoch members old new steps of c h =
-      let s = step_whole on plan told (Ok (said.Concluded epoch members)) (step.Conclude n) old c.concluded of (inr tt) tt c.concludes h.v h.sound h.charted h.stands in
-      let up = conclude_sent plan told h.v s.now n (WholeConcluded epoch members) s.made in
-      let a : IsWhole on plan c.concluded = record { v = s.now; sound = s.sound; charted = s.charted; stands = s.stands } in
+      let s = step_whole on plan told (Ok (said.Concluded epoch members)) (step.Conclude n) old c.concluded of (inr tt) tt c.concludes h in
+      let up = conclude_sent plan told (whole_world_of h.v) (whole_world_of s.whole.v) n (WholeConcluded epoch members) s.made in
+      let a : IsWhole on plan c.concluded = s.whole in
       let p = all_posted old c.concluded c.late c.concluded new c.installs (is_of_next on plan told (Ok (said.Concluded epoch members)) (step.Conclude n) old c.concluded of c.concludes) c.posted a in
       record {
         ends = p.ends;
         made = record {
-          formed = s.now;
+          formed = (whole_world_of s.whole.v);
           concludes = s.made;
           installs = p.saids;
-          posts = subst (λ (k : ℕ). PostsEach plan told s.now k p.saids p.ends.v) h.stands.mail.sent p.each;
-          all_posted = all_sent (sent_in old) (sent_in c.concluded) h.v.sent s.now.sent (length p.saids) h.stands.mail.sent s.stands.mail.sent up p.count_is;
+          posts = subst (λ (k : ℕ). PostsEach plan told (whole_world_of s.whole.v) k p.saids (whole_world_of p.ends.v)) h.stands.mail.sent p.each;
+          all_posted = all_sent (sent_in old) (sent_in c.concluded) (whole_world_of h.v).sent (whole_world_of s.whole.v).sent (length p.saids) h.stands.mail.sent s.whole.stands.mail.sent up p.count_is;
         };
         lives_stay = λ m. p.lives_stay m ∙ c.concludes.did.lives m;
       }
@@ -359,23 +361,23 @@ module _ {D : Type 0} (on : View D) (plan : Plan) (told : Bool) where
   -- the whole regroup
   record RegroupMade (n : ℕ) (epoch : EpochId) (members : ℕ) (v : whole_world.World) (from to : World D) : Type 0 where
     ends : IsWhole on plan to
-    made : Regroups plan told v n epoch members ends.v
+    made : Regroups plan told v n epoch members (whole_world_of ends.v)
     lives_stay : (m : ℕ) → life_of to m ≡ life_of from m
 
   regroup_made : (n : ℕ) (epoch : EpochId) (members : ℕ) (old new : World D) (steps : List StepMade) → IsOf on plan told old → IsInOrder on n epoch members old new steps → (h : IsWhole on plan old)
-      → RegroupMade n epoch members h.v old new
+      → RegroupMade n epoch members (whole_world_of h.v) old new
   regroup_made n epoch members old new steps of is h = by is.again refl is.second
     where
-      r : RoundMade n is.again h.v old is.asked
+      r : RoundMade n is.again (whole_world_of h.v) old is.asked
       r = round_made n is.again old is.asked is.one of is.first h
 
-      by : (b : Bool) → is.again ≡ b → IsSecondRound on n b is.asked is.asked_again is.two → RegroupMade n epoch members h.v old new
+      by : (b : Bool) → is.again ≡ b → IsSecondRound on n b is.asked is.asked_again is.two → RegroupMade n epoch members (whole_world_of h.v) old new
       by false e (none, same) =
-          let at : IsWhole on plan is.asked_again = record { v = r.ends.v; sound = r.ends.sound; charted = r.ends.charted; stands = subst (λ (w : World D). StandsForWhole on (state_of w) r.ends.v) (sym same) r.ends.stands } in
+          let at : IsWhole on plan is.asked_again = same_whole on plan is.asked is.asked_again same r.ends in
           let c = conclusion_made n epoch members is.asked_again new is.last (subst (IsOf on plan told) (sym same) r.of) is.ends at in
           record {
             ends = c.ends;
-            made = AtOnce r.epoch r.saids r.ends.v r.made (λ m. true≢false (sym (r.old_here_is m) ∙ e)) c.made;
+            made = AtOnce r.epoch r.saids (whole_world_of r.ends.v) r.made (λ m. true≢false (sym (r.old_here_is m) ∙ e)) c.made;
             lives_stay = λ m. c.lives_stay m ∙ ap (λ (w : World D). life_of w m) same ∙ r.lives_stay m;
           }
       by true e (more, second) =
@@ -383,7 +385,7 @@ module _ {D : Type 0} (on : View D) (plan : Plan) (told : Bool) where
           let c = conclusion_made n epoch members is.asked_again new is.last o.of is.ends o.ends in
           record {
             ends = c.ends;
-            made = Again r.epoch r.saids r.ends.v r.made (r.old_there_is e) o.epoch o.saids o.ends.v o.made c.made;
+            made = Again r.epoch r.saids (whole_world_of r.ends.v) r.made (r.old_there_is e) o.epoch o.saids (whole_world_of o.ends.v) o.made c.made;
             lives_stay = λ m. c.lives_stay m ∙ o.lives_stay m ∙ r.lives_stay m;
           }
 
@@ -503,8 +505,8 @@ module _ {D : Type 0} (on : View D) where
       let some = some_node (plan_of old) n (life_of old) fit in
       let told = disks_tell on.seen old in
       let first = round_made on (plan_of old) told n is.again old is.asked is.one (record { plan_is = refl; told_is = refl }) is.first h in
-      let fresh = still_fresh old h.v n h.stands first.made.opens.0 in
+      let fresh = still_fresh old (whole_world_of h.v) n (as_whole on (plan_of old) old h) first.made.opens.0 in
       let made = regroup_made on (plan_of old) told n epoch members old new steps (record { plan_is = refl; told_is = refl }) is h in
       let room = subst (HasRoomFor (suc (plan_of old).nodes)) h.stands.mail.flying (room_for (plan_of old).nodes (state_of old).flying.flights some (roomy (sym fit) fresh)) in
-      let f = regroups_form (plan_of old) told h.v made.ends.v n epoch members h.sound (are_numbered (state_of old).flying h.v order h.stands.mail.flying h.stands.mail.sent) room made.made in
-      formed_here epoch members old new ready ready' h.v made.ends.v h.stands made.ends.stands made.lives_stay f
+      let f = regroups_form (plan_of old) told (whole_world_of h.v) (whole_world_of made.ends.v) n epoch members h.sound.whole (are_numbered (state_of old).flying (whole_world_of h.v) order h.stands.mail.flying h.stands.mail.sent) room made.made in
+      formed_here epoch members old new ready ready' (whole_world_of h.v) (whole_world_of made.ends.v) (as_whole on (plan_of old) old h) (as_whole on (plan_of old) new made.ends) made.lives_stay f

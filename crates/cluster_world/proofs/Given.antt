@@ -1,5 +1,5 @@
 -- What it does to give a call up.
-use Rattle.std.proofs.Common.{◌≡◌, inl, ℕ, ◌+◌, nat_le, true, false, [], ◌∷◌, Option, Some, None, Ok, Err, refl, sym, ap, ◌∙◌, arith}
+use Rattle.std.proofs.Common.{◌≡◌, inl, ℕ, ◌+◌, nat_le, true, false, [], ◌∷◌, Option, Some, None, Ok, Err, refl, sym, ap, ◌∙◌, subst, arith}
 use Rattle.std.specs.Prelude.{is_some}
 use Rattle.std.specs.List.{list_all}
 use Rattle.mail_base.specs.declared.filing.CallKind.{CallKind}
@@ -19,7 +19,7 @@ use Rattle.cluster_world.specs.Flights.{InFlight}
 use Rattle.cluster_world.specs.Lives.{of_node, falls_left, all_falls_left, CanWorkOn}
 use Rattle.cluster_world.specs.Worlds.{seen_life, life_among, state_with, StateStandsFor}
 use Rattle.cluster_world.specs.Changes.{ChangesNode}
-use Rattle.cluster_world.specs.Asking.{IsUpWhole, IsRetoldOn, tickets_without}
+use Rattle.cluster_world.specs.Asking.{IsUpWhole, IsRetoldOn, tickets_without, StandsAmongMails}
 use Rattle.cluster_world.specs.Turns.{life_refusal, node_refusal}
 use Rattle.cluster_world.specs.Steps.{StepDid, AreSettled}
 use Rattle.cluster_world.specs.declared.life.Life.{Life}
@@ -30,18 +30,33 @@ use Rattle.cluster_world.specs.declared.step.Said.TheVariants.{Done}
 use Rattle.cluster_world.specs.declared.fault.StepFault.TheVariants as fault
 use Rattle.cluster_world.specs.Books.{booked_by}
 use Rattle.cluster_world.proofs.Still.{some_same}
-use Rattle.cluster_world.proofs.Same.{same_told, same_quiet, led_kept, same_unchanged}
+use Rattle.cluster_world.proofs.Same.{same_told, same_quiet, same_unchanged, led_refused}
 use Rattle.cluster_world.proofs.Turned.{slot_of, falls_now}
-use Rattle.cluster_world.proofs.Refusing.{fit_of, no_ticket_given_up, give_up_is_worn}
+use Rattle.cluster_world.proofs.Refusing.{fit_of, give_up_is_worn}
 use Rattle.cluster_world.proofs.Asked.{ready_of, disk_of, give_up_done, retold_ready, retold_settled}
 use Rattle.cluster_world.proofs.Longer.{same_book}
+use Rattle.cluster_world.proofs.WholeFaults.{give_up_alike}
+use Rattle.cluster_world.proofs.Wholly.{even_of}
+use Rattle.joint_world.specs.World.{whole_world_of}
+use Rattle.whole_world.specs.World.{mail_world_of}
+use Rattle.whole_world.specs.Steps as whole_steps
+use Rattle.cluster_model.specs.Steps as steps
+use Rattle.std.specs.Option.{option_map}
 
--- a ticket that has a kind stands
-pub kind_tells : (kind : Option CallKind) (st : Option plain.Ticket) → call_kind_seen kind ≡ kind_of_ticket st → is_some kind ≡ is_some st
-kind_tells None None e = refl
-kind_tells None (Some t) e = absurd (let never : None ≡ Some t.kind = e in cc)
-kind_tells (Some k) None e = absurd (let never : Some (Rattle.node_tickets.specs.Seen.kind_seen k) ≡ None = e in cc)
-kind_tells (Some k) (Some t) e = refl
+-- A ticket of messages stands at a node that is up.
+pub record StandsUp (ticket : Number) (o : Option Life) : Type 0 where
+  pub node : WholeNode
+  pub up : o ≡ Some (Up node)
+  pub stood : is_some (ticket_standing node.mail ticket) ≡ true
+
+pub stands_up : (ticket : Number) (o : Option Life) → StandsAmongMails ticket o → StandsUp ticket o
+stands_up ticket None stands = absurd (let never : false ≡ true = stands in cc)
+stands_up ticket (Some (Up node)) stands = record { node = node; up = refl; stood = stands }
+stands_up ticket (Some Down) stands = absurd (let never : false ≡ true = stands in cc)
+stands_up ticket (Some Lost) stands = absurd (let never : false ≡ true = stands in cc)
+
+pub stood_at : (ticket : Number) (o : Option Life) (node : WholeNode) → StandsAmongMails ticket o → o ≡ Some (Up node) → is_some (ticket_standing node.mail ticket) ≡ true
+stood_at ticket o node stands e = subst (λ (x : Option Life). StandsAmongMails ticket x) e stands
 
 -- a node at which a ticket may be given up is up
 give_up : (ticket : Number) (o : Option Life) (l : Life) → o ≡ Some l → life_refusal (step.GiveUp ticket) (seen_life o) ≡ None → (node : WholeNode) × (l ≡ Up node)
@@ -88,25 +103,6 @@ module _ {D : Type 0} (on : View D) (ticket : Number) (nodes : Nodes D) (fit : n
               ∙ ap (λ own. is_some (ticket_at own (node_seen node.mail) (Some ticket))) (sym of.own_is);
         }
 
-    pub no_ticket_stood : is_some (ticket_standing node.mail ticket) ≡ false → StepDid on (Err fault.NoSuchTicket) (step.GiveUp ticket) (state_with nodes flying seconds book) (state_with nodes flying seconds book)
-    no_ticket_stood none = record {
-      plan = refl;
-      handed = refl;
-      refused = sym fit;
-      kind = tt;
-      falls = tt;
-      lives = λ m. refl;
-      told = same_told on (state_with nodes flying seconds book);
-      quiet = same_quiet on (state_with nodes flying seconds book);
-      clock = refl;
-      lighter = tt;
-      books = same_book (booked_by book);
-      kept = same_unchanged on (state_with nodes flying seconds book) (step.GiveUp ticket);
-      leads = λ known ended w st. let f = finds w st in led_kept on (state_with nodes flying seconds book) (Err fault.NoSuchTicket) (step.GiveUp ticket) w st (record { step_is = refl; said_is = refl; sees = λ unseen. unseen }) (λ done. done)
-          (inl (inl (no_ticket_given_up nodes.plan w ticket f.slot (node_seen node.mail) named f.here f.is (f.stands ∙ none))), refl);
-      cause = λ w st. tt;
-    }
-
     pub too_late : is_some (ticket_standing node.mail ticket) ≡ true → nat_le letters_end flying.sent ≡ true
         → StepDid on (Err fault.Worn) (step.GiveUp ticket) (state_with nodes flying seconds book) (state_with nodes flying seconds book)
     too_late there late = record {
@@ -119,11 +115,15 @@ module _ {D : Type 0} (on : View D) (ticket : Number) (nodes : Nodes D) (fit : n
       told = same_told on (state_with nodes flying seconds book);
       quiet = same_quiet on (state_with nodes flying seconds book);
       clock = refl;
-      lighter = tt;
+      passed = tt;
       books = same_book (booked_by book);
       kept = same_unchanged on (state_with nodes flying seconds book) (step.GiveUp ticket);
-      leads = λ known ended w st. let f = finds w st in led_kept on (state_with nodes flying seconds book) (Err fault.Worn) (step.GiveUp ticket) w st (record { step_is = refl; said_is = refl; sees = λ unseen. unseen }) (λ done. done)
-          (inl (inl (give_up_is_worn nodes.plan w ticket f.slot (node_seen node.mail) named f.here f.is (f.stands ∙ there) (ap (nat_le letters_end) (sym st.sent) ∙ late))), refl);
+      leads = λ known ended story v st sound.
+          let w = mail_world_of (whole_world_of v) in
+          let f = finds w st.mail in
+          led_refused on (state_with nodes flying seconds book) fault.Worn (whole_steps.StepFault.Fault steps.StepFault.Worn) (step.GiveUp ticket) v st refl
+          ((give_up_alike on nodes.plan (state_with nodes flying seconds book) (even_of nodes) nodes.all v st.mail ticket fit (f.stands ∙ there)).faults (whole_steps.StepFault.Fault steps.StepFault.Worn)
+          (ap (option_map whole_steps.StepFault.Fault) (give_up_is_worn nodes.plan w ticket f.slot (node_seen node.mail) named f.here f.is (ap (nat_le letters_end) (sym st.mail.sent) ∙ late))));
       cause = λ w st. tt;
     }
 

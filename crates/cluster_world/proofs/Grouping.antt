@@ -59,7 +59,7 @@ use Rattle.cluster_world.specs.Moments.{StopsKeep}
 use Rattle.cluster_world.specs.Posts.{IsEntered, AnswersSent}
 use Rattle.cluster_world.specs.Seen.{step_seen, said_seen, fault_seen, whole_step, whole_fault}
 use Rattle.cluster_world.specs.Stands.{SlotStands}
-use Rattle.cluster_world.specs.Steps.{SaysSo, StepDid, LeadsWhole, AreSettled, WasToWork, FallsSo, IsLighter, IsRefusedRight, IsUnchanged, ChangesNothing, FaultHasCause}
+use Rattle.cluster_world.specs.Steps.{SaysSo, StepDid, LeadsWhole, AreSettled, WasToWork, FallsSo, IsRefusedRight, IsUnchanged, ChangesNothing, FaultHasCause, HasPassed, LeadsMail}
 use Rattle.cluster_world.specs.Telling.{members_seen}
 use Rattle.cluster_world.specs.Turning.{life_left}
 use Rattle.cluster_world.specs.Turns.{life_refusal, actor_refusal, nodes_of_step, node_refusal, life_after_step, seconds_after_step}
@@ -86,9 +86,14 @@ use Rattle.cluster_world.proofs.Falling.{fallen, falls_kept, entries_more}
 use Rattle.cluster_world.proofs.Kept.{only_settled}
 use Rattle.cluster_world.proofs.Longer.{as_long, longer_by, same_book}
 use Rattle.cluster_world.proofs.Refusing.{fit_of, form_goes}
-use Rattle.cluster_world.proofs.Same.{led_same, same_told, same_quiet, same_unchanged}
+use Rattle.cluster_world.proofs.Same.{same_told, same_quiet, same_unchanged, led_whole}
 use Rattle.cluster_world.proofs.Still.{some_same, nothing_read}
-use Rattle.cluster_world.proofs.Unchanged.{unchanged_by, node_kept}
+use Rattle.cluster_world.proofs.Unchanged.{unchanged_by, memory_kept}
+use Rattle.cluster_world.proofs.Beside.{OwnKept, turns_keep, turns_same}
+use Rattle.cluster_world.proofs.Lifting.{IsNoAsk, IsDoneWhole}
+use Rattle.joint_world.specs.Staying.{IsForWhole}
+use Rattle.joint_world.specs.World as joint_world
+use Rattle.joint_world.specs.World.{whole_world_of}
 
 -- letters that can be taken, and that fit, can be heard
 pub can_be_heard : (letters : List Letter) → AllCanBeTaken letters → All FitsMaps letters → AllCanBeHeard letters
@@ -192,7 +197,9 @@ module _ {D : Type 0} (on : View D) where
     pub seen : step_seen s ≡ steps.Step.Form n
     pub named : (plan : Plan) (lives : ℕ → NodeLife) → node_refusal plan lives s ≡ None → list_all (is_node plan) (n ∷ []) ≡ true
     pub clock : (result : Result Said StepFault) (was : ℕ) → was ≡ seconds_after_step s result was
-    pub lighter : (it : Said) (old new : WorldState D) → IsLighter (Ok it) s old new
+    pub passed : (it : Said) (old new : WorldState D) → HasPassed (Ok it) s old new
+    pub asks : IsNoAsk s
+    pub for : (v : joint_world.World) → IsForWhole v (whole_step s)
 
   -- and what it says where it was done
   pub record IsFormed (s : Step) (what : Said) : Type 0 where
@@ -203,13 +210,13 @@ module _ {D : Type 0} (on : View D) where
     pub of_forming : IsSaidOfForming (said_seen what)
 
   pub group_forms : (n : ℕ) → IsForming n (step.Group n)
-  group_forms n = record { seen = refl; named = λ plan lives fit. (fit_of (list_all (is_node plan) (n ∷ [])) (life_refusal (step.Group n) (lives n)) fit).0; clock = λ result was. refl; lighter = λ it old new. tt }
+  group_forms n = record { seen = refl; named = λ plan lives fit. (fit_of (list_all (is_node plan) (n ∷ [])) (life_refusal (step.Group n) (lives n)) fit).0; clock = λ result was. refl; passed = λ it old new. tt; asks = tt; for = λ v. tt }
 
   pub group_formed : (n : ℕ) (epoch : EpochId) → IsFormed (step.Group n) (said.Grouped epoch)
   group_formed n epoch = record { says = tt; goes_on = λ m was. refl; falls = λ nodes lives. tt; cause = λ old new. tt; of_forming = tt }
 
   pub conclude_forms : (n : ℕ) → IsForming n (step.Conclude n)
-  conclude_forms n = record { seen = refl; named = λ plan lives fit. (fit_of (list_all (is_node plan) (n ∷ [])) (life_refusal (step.Conclude n) (lives n)) fit).0; clock = λ result was. refl; lighter = λ it old new. tt }
+  conclude_forms n = record { seen = refl; named = λ plan lives fit. (fit_of (list_all (is_node plan) (n ∷ [])) (life_refusal (step.Conclude n) (lives n)) fit).0; clock = λ result was. refl; passed = λ it old new. tt; asks = tt; for = λ v. tt }
 
   pub conclude_formed : (n : ℕ) (epoch : EpochId) (members : ℕ) → IsFormed (step.Conclude n) (said.Concluded epoch members)
   conclude_formed n epoch members = record { says = tt; goes_on = λ m was. refl; falls = λ nodes lives. tt; cause = λ old new. tt; of_forming = tt }
@@ -231,10 +238,9 @@ module _ {D : Type 0} (on : View D) where
       Refuses why = (w : machine.World) → StateStandsFor on before w → (v : whole_world.World) → mail_world_of v ≡ w → AreMaps old.lives.items v.slots
           → whole_makes.MakesStep old.plan (tells_in on.seen before) v (whole_step s) (whole_fault why) v
 
-      refused_so : (why : StepFault) → Refuses why → IsRefusedRight (Err why) (node_refusal old.plan (life_among old) s) → FallsSo (Err why) old.plan.nodes s (life_among old)
-          → ((m : ℕ) → life_among old m ≡ life_after_step (Err why) s m (life_among old m)) → ChangesNothing on (Err why) s before before
-          → ((tells : Bool) (w : machine.World) → MakesStep old.plan tells w (steps.Step.Form n) (fault_seen why) w) → StepDid on (Err why) s before before
-      refused_so why refuses right falls lives kept made = record {
+      refused_so : (why : StepFault) → Refuses why → (IsDoneWhole (whole_fault why) → ⊥) → IsRefusedRight (Err why) (node_refusal old.plan (life_among old) s) → FallsSo (Err why) old.plan.nodes s (life_among old)
+          → ((m : ℕ) → life_among old m ≡ life_after_step (Err why) s m (life_among old m)) → ChangesNothing on (Err why) s before before → StepDid on (Err why) s before before
+      refused_so why refuses none right falls lives kept = record {
         plan = refl;
         handed = refl;
         refused = right;
@@ -244,28 +250,28 @@ module _ {D : Type 0} (on : View D) where
         clock = f.clock (Err why) seconds;
         told = same_told on before;
         quiet = same_quiet on before;
-        lighter = tt;
+        passed = tt;
         books = same_book (booked_by book);
         kept = kept;
-        leads = λ known ended w st. led_same on before (Err why) s w st (made_as (tells_in on.seen before) w w (fault_seen why) (made (tells_in on.seen before) w)) (λ v seen sound maps. refuses w st v seen maps);
+        leads = λ known ended story v st sound. led_whole on before (Err why) s v st f.asks none (refuses (mail_world_of (whole_world_of v)) st.mail (whole_world_of v) refl st.maps);
         cause = λ w st. tt;
       }
 
       pub form_worn : Refuses fault.Worn → StepDid on (Err fault.Worn) s before before
-      form_worn refuses = refused_so fault.Worn refuses (sym fit) tt (λ m. refl) (same_unchanged on before s) (λ tells w. (inr tt, refl))
+      form_worn refuses = refused_so fault.Worn refuses (λ done. done) (sym fit) tt (λ m. refl) (same_unchanged on before s)
 
       pub form_crowded : Refuses fault.NoRoom → StepDid on (Err fault.NoRoom) s before before
-      form_crowded refuses = refused_so fault.NoRoom refuses (sym fit) tt (λ m. refl) (same_unchanged on before s) (λ tells w. (inr tt, refl))
+      form_crowded refuses = refused_so fault.NoRoom refuses (λ done. done) (sym fit) tt (λ m. refl) (same_unchanged on before s)
 
       pub form_none : Refuses fault.NotAGroup → StepDid on (Err fault.NotAGroup) s before before
-      form_none refuses = refused_so fault.NotAGroup refuses (sym fit) tt (λ m. refl) (same_unchanged on before s) (λ tells w. (inr tt, refl))
+      form_none refuses = refused_so fault.NotAGroup refuses (λ done. done) (sym fit) tt (λ m. refl) (same_unchanged on before s)
 
     -- what the whole world makes of it
     abbrev pub WholeTo : WorldState D → Result Said StepFault → List Life → machine.World → machine.World → Type 0
     WholeTo start result lives w next = (v : whole_world.World) → mail_world_of v ≡ w → Stands old.plan v → AreMaps old.lives.items v.slots → LeadsWhole old.plan (tells_in on.seen start) result s lives v next
 
     -- The node worked.
-    module _ (P : Life → D → Life → D → Type 0) (mid : Nodes D) (ch : ChangesNode n P old mid) (a : WholeNode) (was : ch.life ≡ Up a) where
+    module _ (P : Life → D → Life → D → Type 0) (mid : Nodes D) (ch : ChangesNode n P old mid) (a : WholeNode) (was : ch.life ≡ Up a) (own : OwnKept ch.life ch.life') where
       up_boot : (b : WholeNode) → ch.life' ≡ Up b → (node_seen b.mail).boot ≡ (node_seen a.mail).boot → life_seen ch.life' ≡ life_seen ch.life
       up_boot b is boot = ap life_seen is ∙ ap life.Up boot ∙ sym (ap life_seen was)
 
@@ -303,9 +309,12 @@ module _ {D : Type 0} (on : View D) where
             h.did.appends.told
             (subst (λ x. on.faults ch.disk ≤ x) (sym h.did.appends.quiet) (omega arith))
             (λ boot _. h.did.appends.quiet)
-            (f.lighter what first (state_with new flying' seconds book'))
+            (f.passed what first (state_with new flying' seconds book'))
             (as_long (booked_by book) (booked_by book') (ap entries_seen wrote))
             tt
+            f.asks
+            (λ v s done. f.for v)
+            own
             (λ w st.
             let sent : WorkSent on n P old mid new ch rule a was flying flying' seconds book book' letters w.flying w.book w =
             work_sent on n P old mid new ch rule a was flying flying' seconds book book' b is letters h.did old.plan None off w st w.flying refl w.book (ap entries_seen wrote ∙ st.book) in
@@ -347,7 +356,7 @@ module _ {D : Type 0} (on : View D) where
           -- its disk failed
           pub form_failed : SaysSo s (said.Faulted n) → Rose (on.faults ch.disk) (on.faults ch.disk') → Falls (Ok (said.Faulted n)) → StepDid on (Ok (said.Faulted n)) s first between
           form_failed fails rose whole = work_did on n P old mid mid ch (λ slots. slots) (nothing_else on mid) flying flying seconds book book' (Ok (said.Faulted n)) s (f.clock (Ok (said.Faulted n)) seconds) (sym fit) fails was_to_work lives_down
-              told later (λ boot up. absurd (not_up boot up)) (f.lighter (said.Faulted n) first between) (longer_by book book' (written.Down n ∷ []) wrote) tt
+              told later (λ boot up. absurd (not_up boot up)) (f.passed (said.Faulted n) first between) (longer_by book book' (written.Down n ∷ []) wrote) tt f.asks (λ v s done. f.for v) own
               (λ w st.
               let c = cut w st in
               record {
@@ -365,7 +374,7 @@ module _ {D : Type 0} (on : View D) where
           -- or memory ran out
           pub form_fell : Falls (Err (fault.NoMemory (Some n))) → StepDid on (Err (fault.NoMemory (Some n))) s first between
           form_fell whole = work_did on n P old mid mid ch (λ slots. slots) (nothing_else on mid) flying flying seconds book book' (Err (fault.NoMemory (Some n))) s (f.clock (Err (fault.NoMemory (Some n))) seconds) tt tt was_to_work lives_down
-              told later (λ boot up. absurd (not_up boot up)) tt (longer_by book book' (written.Down n ∷ []) wrote) tt
+              told later (λ boot up. absurd (not_up boot up)) tt (longer_by book book' (written.Down n ∷ []) wrote) tt f.asks (λ v s done. f.for v) own
               (λ w st.
               let c = cut w st in
               record {
@@ -408,7 +417,7 @@ module _ {D : Type 0} (on : View D) where
             alive slot whole lost = let never : plain.Life.Up (node_seen a.mail) ≡ plain.Life.Lost = sym (ap (λ (x : Slot). x.life) whole) ∙ lost in cc
 
         -- It did nothing, and is as it was.
-        module _ (b : WholeNode) (is : ch.life' ≡ Up b) (alike : IsAsBefore a.mail b.mail) (untold : ch.disk' ≡ ch.disk) (wrote : entries_of book' ≡ entries_of book) where
+        module _ (b : WholeNode) (is : ch.life' ≡ Up b) (alike : IsAsBefore a.mail b.mail) (stay : node_of b.maps ≡ node_of a.maps) (untold : ch.disk' ≡ ch.disk) (wrote : entries_of book' ≡ entries_of book) where
           -- the whole world is as it was
           abbrev pub Idles : StepFault → Type 0
           Idles why = (w : machine.World) (st : StateStandsFor on first w) → WholeTo first (Err why) mid.lives.items w w
@@ -425,8 +434,11 @@ module _ {D : Type 0} (on : View D) where
               (λ boot _. ap on.faults untold)
               tt
               (as_long (booked_by book) (booked_by book') (ap entries_seen wrote))
-              (kept (unchanged_by n P old mid ch flying flying seconds seconds book book' on s (node_kept ch.life ch.life' a b was is alike)
+              (kept (unchanged_by n P old mid ch flying flying seconds seconds book book' on s (memory_kept ch.life ch.life' a b was is alike stay (turns_same ch.life ch.life' own a b was is stay))
               (λ _. untold) (λ _. (nothing_read on ch.disk ch.disk' untold, ap on.faults untold)) refl refl (ap entries_seen wrote)))
+              f.asks
+              (λ v s done. f.for v)
+              own
               (λ w st. record {
                 next = w;
                 stands = idle_stands on n P old mid mid ch rule a was flying flying seconds book book' b is alike untold (λ slots. slots) (nothing_else on mid) w st w.flying st.flying refl (ap entries_seen wrote);
@@ -455,7 +467,7 @@ module _ {D : Type 0} (on : View D) where
 
       -- the book has room for what may be written
       module _ (roomy : Book) (wrote : entries_of roomy ≡ entries_of book) (room : all_falls_left old.lives.items + 1 ≤ spare_of roomy)
-          (P : Life → D → Life → D → Type 0) (mid : Nodes D) (ch : ChangesNode n P old mid) (a : WholeNode) (was : ch.life ≡ Up a) where
+          (P : Life → D → Life → D → Type 0) (mid : Nodes D) (ch : ChangesNode n P old mid) (a : WholeNode) (was : ch.life ≡ Up a) (own : OwnKept ch.life ch.life') where
         -- It did what it was to do, and its letters were sent, or memory ran out.
         module _ (b : WholeNode) (is : ch.life' ≡ Up b) (letters : List Letter) (h : HasFormed on learns_nothing a.mail ch.disk b.mail ch.disk' letters) (settles : is_settled ch.disk → is_settled ch.disk') (can : WholeWorks (on.seen ch.disk') b)
             (new : Nodes D) (flying' : InFlight) (book' : Book) where
@@ -475,7 +487,7 @@ module _ {D : Type 0} (on : View D) where
               let fell : FallsDown on n (AreThese ch.life Down ch.disk ch.disk') old new t ready a was' = record { is = t.does.life_is; told = did.appends.told; later = later } in
               record {
                 did = λ seconds. subst (λ (x : InFlight). StepDid on (Err (fault.NoMemory (Some n))) s (state_with old flying seconds book) (state_with new x seconds book')) (sym flying_is)
-                    (form_fell (AreThese ch.life Down ch.disk ch.disk') new t a was' flying early seconds book book' h.installed h.promise letters t.does.life_is did.appends.told later
+                    (form_fell (AreThese ch.life Down ch.disk ch.disk') new t a was' (λ b up. let never : Down ≡ Up b = sym t.does.life_is ∙ up in cc) flying early seconds book book' h.installed h.promise letters t.does.life_is did.appends.told later
                     (entered.wrote ∙ ap (λ xs. xs ++ written.Down n ∷ []) wrote)
                     (λ w st. work_undone on n (AreThese ch.life Down ch.disk ch.disk') old new new t rule a was' flying flying seconds book book' b letters did w st)
                     (λ w st. undone t seconds w st (work_undone on n (AreThese ch.life Down ch.disk ch.disk') old new new t rule a was' flying flying seconds book book' b letters did w st)));
@@ -484,14 +496,14 @@ module _ {D : Type 0} (on : View D) where
                 spare = omega (arith, down_falls on n (AreThese ch.life Down ch.disk ch.disk') old new t ready a was' fell, entered.spare);
               }
 
-          pub answered_by : (what : Said) → IsFormed s what → (SentOff on old.plan letters None flying flying' mid new → (seconds : ℕ) → Formed P mid ch a was flying early seconds book book' what b letters h new flying') → Undone
+          pub answered_by : (what : Said) → IsFormed s what → (SentOff on old.plan letters None flying flying' mid new → (seconds : ℕ) → Formed P mid ch a was own flying early seconds book book' what b letters h new flying') → Undone
               → (r : Result Said StepFault) → AnswersSent on mid.plan n None what letters r mid flying roomy new flying' book' → FormDid roomy r new flying' book'
           answered_by what g formed undone (Ok it) (it_is, off, book_is) =
-              let stays = formed_stays P mid ch a was b letters is h can in
+              let stays = formed_stays P mid ch a was own b letters is h can in
               let sent : SentOff on old.plan letters None flying flying' mid new = subst (λ p. SentOff on p letters None flying flying' mid new) ch.plan off in
               record {
                 did = λ seconds. subst (λ x. StepDid on (Ok x) s (state_with old flying seconds book) (state_with new flying' seconds book')) (sym it_is)
-                    (formed_did P mid ch a was flying early seconds book book' what g b is letters h (ap entries_of book_is ∙ wrote) new flying' sent (formed sent seconds));
+                    (formed_did P mid ch a was own flying early seconds book book' what g b is letters h (ap entries_of book_is ∙ wrote) new flying' sent (formed sent seconds));
                 works = subst (λ p. CanWorkOn on.seen p new.lives.items new.disks.items) (sym off.noticed.only.plan) off.noticed.works;
                 settled = λ seconds st. only_settled on (λ slots. all_missed Crowded slots (put_down letters (taken_out None flying)).left) mid new off.noticed.only flying flying' seconds seconds book' book' is_settled
                     (stays_settled on n P old mid ch ready a was b stays flying flying seconds seconds book book' is_settled settles st);
@@ -501,10 +513,10 @@ module _ {D : Type 0} (on : View D) where
               subst (λ x. FormDid roomy (Err x) new flying' book') (sym why_is) (undone_by (turned_after n P Down old mid new ch turned) flying_is entered undone)
 
         -- It is as it was.
-        module _ (b : WholeNode) (is : ch.life' ≡ Up b) (alike : IsAsBefore a.mail b.mail) (untold : ch.disk' ≡ ch.disk) (can : WholeWorks (on.seen ch.disk') b) (book' : Book) (same : entries_of book' ≡ entries_of roomy) (spare : spare_of roomy ≤ spare_of book' + 1) where
+        module _ (b : WholeNode) (is : ch.life' ≡ Up b) (alike : IsAsBefore a.mail b.mail) (stay : node_of b.maps ≡ node_of a.maps) (untold : ch.disk' ≡ ch.disk) (can : WholeWorks (on.seen ch.disk') b) (book' : Book) (same : entries_of book' ≡ entries_of roomy) (spare : spare_of roomy ≤ spare_of book' + 1) where
           kept_by : (why : StepFault) → ((seconds : ℕ) → StepDid on (Err why) s (state_with old flying seconds book) (state_with mid flying seconds book')) → FormDid roomy (Err why) mid flying book'
           kept_by why did =
-              let stays = idle_stays P mid ch a was b is alike untold can in
+              let stays = idle_stays P mid ch a was own b is alike untold can in
               record {
                 did = did;
                 works = stays_ready on n P old mid ch ready a was b stays;
@@ -513,16 +525,16 @@ module _ {D : Type 0} (on : View D) where
               }
 
           abbrev pub Keeps : StepFault → Type 0
-          Keeps why = (seconds : ℕ) → Idles P mid ch a was flying early seconds book book' b is alike untold (same ∙ wrote) why
+          Keeps why = (seconds : ℕ) → Idles P mid ch a was own flying early seconds book book' b is alike stay untold (same ∙ wrote) why
 
           pub worn_by : Keeps fault.Worn → FormDid roomy (Err fault.Worn) mid flying book'
-          worn_by whole = kept_by fault.Worn (λ seconds. form_idle_worn P mid ch a was flying early seconds book book' b is alike untold (same ∙ wrote) (whole seconds))
+          worn_by whole = kept_by fault.Worn (λ seconds. form_idle_worn P mid ch a was own flying early seconds book book' b is alike stay untold (same ∙ wrote) (whole seconds))
 
           pub none_by : Keeps fault.NotAGroup → FormDid roomy (Err fault.NotAGroup) mid flying book'
-          none_by whole = kept_by fault.NotAGroup (λ seconds. form_idle_none P mid ch a was flying early seconds book book' b is alike untold (same ∙ wrote) (whole seconds))
+          none_by whole = kept_by fault.NotAGroup (λ seconds. form_idle_none P mid ch a was own flying early seconds book book' b is alike stay untold (same ∙ wrote) (whole seconds))
 
           pub short_by : Keeps (fault.NoMemory None) → FormDid roomy (Err (fault.NoMemory None)) mid flying book'
-          short_by whole = kept_by (fault.NoMemory None) (λ seconds. form_idle_short P mid ch a was flying early seconds book book' b is alike untold (same ∙ wrote) (whole seconds))
+          short_by whole = kept_by (fault.NoMemory None) (λ seconds. form_idle_short P mid ch a was own flying early seconds book book' b is alike stay untold (same ∙ wrote) (whole seconds))
 
         -- It went down.
         module _ (down : ch.life' ≡ Down) (told : IsToldAlike (on.seen ch.disk) (on.seen ch.disk')) (later : on.faults ch.disk ≤ on.faults ch.disk') (book' : Book) (entered : entries_of book' ≡ entries_of roomy ++ written.Down n ∷ [])
@@ -549,20 +561,20 @@ module _ {D : Type 0} (on : View D) where
 
           pub failed_by : SaysSo s (said.Faulted n) → (installed : Option Membership) (promise : Option EpochId) → NodeStopped on (forms_rule learns_nothing installed promise []) a.mail ch.disk ch.disk' → Rose (on.faults ch.disk) (on.faults ch.disk')
               → Cuts installed promise (Ok (said.Faulted n)) → FormDid roomy (Ok (said.Faulted n)) mid flying book'
-          failed_by fails installed promise stopped rose whole = down_by (Ok (said.Faulted n)) (λ seconds. form_failed P mid ch a was flying early seconds book book' installed promise [] down told later now_wrote
+          failed_by fails installed promise stopped rose whole = down_by (Ok (said.Faulted n)) (λ seconds. form_failed P mid ch a was own flying early seconds book book' installed promise [] down told later now_wrote
               (λ w st. work_stopped on n P old mid mid ch (forms_rule learns_nothing installed promise []) a was flying flying seconds book book' stopped w st) fails rose
               (λ w st. whole seconds w st (work_stopped on n P old mid mid ch (forms_rule learns_nothing installed promise []) a was flying flying seconds book book' stopped w st)))
 
           pub fell_by : (installed : Option Membership) (promise : Option EpochId) → NodeStopped on (forms_rule learns_nothing installed promise []) a.mail ch.disk ch.disk' → Cuts installed promise (Err (fault.NoMemory (Some n)))
               → FormDid roomy (Err (fault.NoMemory (Some n))) mid flying book'
-          fell_by installed promise stopped whole = down_by (Err (fault.NoMemory (Some n))) (λ seconds. form_fell P mid ch a was flying early seconds book book' installed promise [] down told later now_wrote
+          fell_by installed promise stopped whole = down_by (Err (fault.NoMemory (Some n))) (λ seconds. form_fell P mid ch a was own flying early seconds book book' installed promise [] down told later now_wrote
               (λ w st. work_stopped on n P old mid mid ch (forms_rule learns_nothing installed promise []) a was flying flying seconds book book' stopped w st)
               (λ w st. whole seconds w st (work_stopped on n P old mid mid ch (forms_rule learns_nothing installed promise []) a was flying flying seconds book book' stopped w st)))
 
           pub fell_untold : ch.disk' ≡ ch.disk → Cuts None None (Err (fault.NoMemory (Some n))) → FormDid roomy (Err (fault.NoMemory (Some n))) mid flying book'
-          fell_untold untold whole = down_by (Err (fault.NoMemory (Some n))) (λ seconds. form_fell P mid ch a was flying early seconds book book' None None [] down told later now_wrote
-              (λ w st. untouched_cut P mid ch a was flying early seconds book book' untold None [] w st)
-              (λ w st. whole seconds w st (untouched_cut P mid ch a was flying early seconds book book' untold None [] w st)))
+          fell_untold untold whole = down_by (Err (fault.NoMemory (Some n))) (λ seconds. form_fell P mid ch a was own flying early seconds book book' None None [] down told later now_wrote
+              (λ w st. untouched_cut P mid ch a was own flying early seconds book book' untold None [] w st)
+              (λ w st. whole seconds w st (untouched_cut P mid ch a was own flying early seconds book book' untold None [] w st)))
 
       -- what is cut of a promise
       cut_of : (promise : Option EpochId) (disk front pending missing : List Record) → disk ++ promise_records promise ≡ disk ++ ((front ++ pending) ++ missing) → promise_records promise ≡ (front ++ pending) ++ missing
@@ -582,6 +594,10 @@ module _ {D : Type 0} (on : View D) where
 
         abbrev Opens : Result Grouped NodeFault → Type 0
         Opens r = OpensGroup on old.plan.nodes a_node ch.disk b_node ch.disk' r × (ch.life' ≡ life_left r b_node) × (LeavesUp r → (is_settled ch.disk → is_settled ch.disk') × WholeWorks (on.seen ch.disk') b_node)
+
+        opens_own : OwnKept ch.life ch.life'
+        opens_own = turns_keep on.seen (λ result old before new after. GroupsSo on result old before new after) (λ result old_node before new after. OpensGroup on old.plan.nodes old_node before new after result)
+            opened ch.life ch.disk ch.life' ch.disk' ch.does.0
 
         opens_as : (r : Result Grouped NodeFault) → opened ≡ r → Opens r
         opens_as r e = subst Opens e (ch.does.0.maps, ch.does.0.is, λ up. (ch.does.1 up, ch.does.0.works up))
@@ -614,7 +630,7 @@ module _ {D : Type 0} (on : View D) where
 
         pub opened_ready : (done : Grouped) → opened ≡ Ok done → CanWorkOn on.seen mid.plan mid.lives.items mid.disks.items
         opened_ready done e = let o = opens_as (Ok done) e in
-            stays_ready on n P_group old mid ch ready a_node ch.does.0.was b_node (formed_stays P_group mid ch a_node ch.does.0.was b_node done.letters o.1 (forms_of done e) (o.2 tt).1)
+            stays_ready on n P_group old mid ch ready a_node ch.does.0.was b_node (formed_stays P_group mid ch a_node ch.does.0.was opens_own b_node done.letters o.1 (forms_of done e) (o.2 tt).1)
 
         module _ (space : nat_le (old.plan.nodes - 1) (room_left flying.flights) ≡ true) where
           pub opened_sent : (done : Grouped) → opened ≡ Ok done → (items : List Letter) → items ≡ done.letters → IsFormed s (said.Grouped done.epoch) → (r : Result Said StepFault) (new : Nodes D) (flying' : InFlight) (book' : Book)
@@ -623,7 +639,7 @@ module _ {D : Type 0} (on : View D) where
           opened_sent done e items same g r new flying' book' sent =
               let o = opens_as (Ok done) e in
               let h = groups_so on old.plan.nodes a_node ch.disk b_node ch.disk' (Ok done) o.0 in
-              answered_by roomy wrote room P_group mid ch a_node ch.does.0.was b_node o.1 done.letters h (o.2 tt).0 (o.2 tt).1 new flying' book' (said.Grouped done.epoch) g
+              answered_by roomy wrote room P_group mid ch a_node ch.does.0.was opens_own b_node o.1 done.letters h (o.2 tt).0 (o.2 tt).1 new flying' book' (said.Grouped done.epoch) g
               (λ off seconds w st did v seen sound maps.
               let there = up_whole old.lives.items w v seen maps n a_node did.node did.disk at_here did.up did.node_is in
               subst (λ (x : Step). LeadsWhole old.plan (tells_in on.seen (state_with old flying seconds book)) (Ok (said.Grouped done.epoch)) x new.lives.items v
@@ -675,20 +691,20 @@ module _ {D : Type 0} (on : View D) where
               by : (why : NodeFault) → Opens (Err why) → entries_of book' ≡ entries_of roomy ++ entries_of_fault n why → FormDid roomy (said_of_fault n why) mid flying book'
               by Disk (so, is, up) written_is =
                   let (may, stopped, fails) = so.failed in
-                  failed_by roomy wrote room P_group mid ch a_node ch.does.0.was is stopped.stops.told fails.0 book' written_is spare (subst (λ (x : Step). SaysSo x (said.Faulted n)) (sym s_is) refl) None (Some (next_of a_node)) stopped fails.1
+                  failed_by roomy wrote room P_group mid ch a_node ch.does.0.was opens_own is stopped.stops.told fails.0 book' written_is spare (subst (λ (x : Step). SaysSo x (said.Faulted n)) (sym s_is) refl) None (Some (next_of a_node)) stopped fails.1
                   (λ seconds w st c. (falls is book' so.fresh seconds w st c).0)
               by Worn (so, is, up) written_is =
-                  worn_by roomy wrote room P_group mid ch a_node ch.does.0.was b_node is so.1.as_before so.1.untouched (up tt).1 book' (written_is ∙ append-nil (entries_of roomy)) spare
+                  worn_by roomy wrote room P_group mid ch a_node ch.does.0.was opens_own b_node is so.1.as_before (ap node_of so.1.maps) so.1.untouched (up tt).1 book' (written_is ∙ append-nil (entries_of roomy)) spare
                   (λ seconds w st v seen sound maps.
                   let here = stood on n old flying seconds book w st v seen maps a_node at_here in
                   kept_whole fault.Worn is so.1.maps seconds w v seen maps
                   (inl (group_faults on n old flying seconds book w st v seen maps a_node at_here fit_here here.disk here.there false true (nat_lt (room_left flying.flights) (old.plan.nodes - 1)) early so.0 refl), refl))
               by (NoMemory true) (so, is, up) written_is =
                   let (may, stopped, fails) = so.failed in
-                  fell_by roomy wrote room P_group mid ch a_node ch.does.0.was is stopped.stops.told fails book' written_is spare None (Some (next_of a_node)) stopped
+                  fell_by roomy wrote room P_group mid ch a_node ch.does.0.was opens_own is stopped.stops.told fails book' written_is spare None (Some (next_of a_node)) stopped
                   (λ seconds w st c. (falls is book' so.fresh seconds w st c).1)
               by (NoMemory false) (so, is, up) written_is =
-                  short_by roomy wrote room P_group mid ch a_node ch.does.0.was b_node is so.as_before so.untouched (up tt).1 book' (written_is ∙ append-nil (entries_of roomy)) spare
+                  short_by roomy wrote room P_group mid ch a_node ch.does.0.was opens_own b_node is so.as_before (ap node_of so.maps) so.untouched (up tt).1 book' (written_is ∙ append-nil (entries_of roomy)) spare
                   (λ seconds w st v seen sound maps. kept_whole (fault.NoMemory None) is so.maps seconds w v seen maps refl)
 
       -- A node concluded its group, or had none open, or memory ran out.
@@ -705,6 +721,10 @@ module _ {D : Type 0} (on : View D) where
 
         abbrev Concludes : Result (Option Concluded) NodeFault → Type 0
         Concludes r = ConcludesGroup old.plan.buckets r a_one b_one × (ch.life' ≡ life_left r b_one) × (LeavesUp r → WholeWorks (on.seen ch.disk') b_one)
+
+        ends_own : OwnKept ch.life ch.life'
+        ends_own = turns_keep on.seen (λ result old before new after. ConcludesGroupSo on result old before new after) (λ result old_node before new after. ConcludesGroup old.plan.buckets result old_node new)
+            concluded ch.life ch.disk ch.life' ch.disk' ch.does.0
 
         concludes_as : (r : Result (Option Concluded) NodeFault) → concluded ≡ r → Concludes r
         concludes_as r e = subst Concludes e (ch.does.0.maps, ch.does.0.is, ch.does.0.works)
@@ -736,7 +756,7 @@ module _ {D : Type 0} (on : View D) where
 
         pub concluded_ready : (done : Concluded) → concluded ≡ Ok (Some done) → CanWorkOn on.seen mid.plan mid.lives.items mid.disks.items
         concluded_ready done e = let o = concludes_as (Ok (Some done)) e in
-            stays_ready on n P_conclude old mid ch ready a_one ch.does.0.was b_one (formed_stays P_conclude mid ch a_one ch.does.0.was b_one done.letters o.1 (ends_of done o.0) (o.2 tt))
+            stays_ready on n P_conclude old mid ch ready a_one ch.does.0.was b_one (formed_stays P_conclude mid ch a_one ch.does.0.was ends_own b_one done.letters o.1 (ends_of done o.0) (o.2 tt))
 
         -- how many members it has, as its own node says it
         members_so : (life : Life) → of_node mid.lives.items n ≡ Some life → ch.life' ≡ Up b_one → (members : ℕ) → members ≡ members_seen (node_of_life (Some life)) → members ≡ plain.members_of (node_seen b_one.mail)
@@ -762,7 +782,7 @@ module _ {D : Type 0} (on : View D) where
         concluded_sent done e items same before before_at joins joined space life at members members_are g r new flying' book' sent =
             let o = concludes_as (Ok (Some done)) e in
             let h = ends_of done o.0 in
-            answered_by roomy wrote room P_conclude mid ch a_one ch.does.0.was b_one o.1 done.letters h (λ was_settled. subst is_settled (sym ch.does.1) was_settled) (o.2 tt) new flying' book' (said.Concluded done.epoch members) g
+            answered_by roomy wrote room P_conclude mid ch a_one ch.does.0.was ends_own b_one o.1 done.letters h (λ was_settled. subst is_settled (sym ch.does.1) was_settled) (o.2 tt) new flying' book' (said.Concluded done.epoch members) g
             (λ off seconds w st did v seen sound maps.
             let there = up_whole old.lives.items w v seen maps n a_one did.node did.disk at_one did.up did.node_is in
             subst (λ (x : Step). LeadsWhole old.plan (tells_in on.seen (state_with old flying seconds book)) (Ok (said.Concluded done.epoch members)) x new.lives.items v
@@ -788,7 +808,7 @@ module _ {D : Type 0} (on : View D) where
         pub concluded_none : concluded ≡ Ok None → FormDid roomy (Err fault.NotAGroup) mid flying roomy
         concluded_none e =
             let o = concludes_as (Ok None) e in
-            none_by roomy wrote room P_conclude mid ch a_one ch.does.0.was b_one o.1 (same_before a_one.mail b_one.mail o.0.2) ch.does.1 (o.2 tt) roomy refl (omega arith)
+            none_by roomy wrote room P_conclude mid ch a_one ch.does.0.was ends_own b_one o.1 (same_before a_one.mail b_one.mail o.0.2) o.0.1.node ch.does.1 (o.2 tt) roomy refl (omega arith)
             (λ seconds w st v seen sound maps.
             let here = stood on n old flying seconds book w st v seen maps a_one at_one in
             subst (λ (x : Step). LeadsWhole old.plan (tells_in on.seen (state_with old flying seconds book)) (Err fault.NotAGroup) x mid.lives.items v w) (sym s_is)
@@ -807,7 +827,7 @@ module _ {D : Type 0} (on : View D) where
             by Disk (so, is, up) written_is = absurd so
             by Worn (so, is, up) written_is = absurd so
             by (NoMemory true) (so, is, up) written_is =
-                fell_untold roomy wrote room P_conclude mid ch a_one ch.does.0.was is (ap (λ d. is_some (on.seen d)) ch.does.1)
+                fell_untold roomy wrote room P_conclude mid ch a_one ch.does.0.was ends_own is (ap (λ d. is_some (on.seen d)) ch.does.1)
                 (subst (λ d. on.faults ch.disk ≤ on.faults d) (sym ch.does.1) (omega arith)) book' written_is spare ch.does.1
                 (λ seconds w st c. falls_one {Q = P_conclude} mid ch ch.does.0.was is None [] book' seconds w st c)
             by (NoMemory false) (so, is, up) written_is = absurd so

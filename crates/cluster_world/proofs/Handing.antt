@@ -37,7 +37,7 @@ module _ {D : Type 0} (nodes : Nodes D) (n k : ℕ) (at : k + 1 ≡ n) (up : is_
   pub place_within : k < length nodes.lives.items
   place_within = let (l, here) = there_up (of_node nodes.lives.items n) up in slice_get_within nodes.lives.items k l (sym (node_at nodes.lives.items n k at) ∙ here)
 
-  disk_within : k < length nodes.disks.items
+  pub disk_within : k < length nodes.disks.items
   disk_within = omega (arith, place_within, nodes.all, nodes.disk_each)
 
   module _ (l spare : Life) (d extra : D) (l_is : l ≡ get_or nodes.lives.items k spare) (d_is : d ≡ get_or nodes.disks.items k extra) where
@@ -71,6 +71,7 @@ module _ {D : Type 0} (nodes : Nodes D) (n k : ℕ) (at : k + 1 ≡ n) (up : is_
             was = t.was;
             did = t.did nodes.plan n (of_both on.seen works t.old t.was).0;
             maps = t.maps nodes.plan n (of_both on.seen works t.old t.was).0;
+            beside = t.beside;
             is = t.is;
             works = t.works;
           },

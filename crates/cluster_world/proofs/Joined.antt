@@ -1,5 +1,5 @@
 -- A world of the machine for messages, and the maps of nodes that are up, as one whole world.
-use Rattle.std.proofs.Common.{◌≡◌, ℕ, zero, suc, List, [], ◌∷◌, length, map, Option, Some, None, refl, sym, ap, ◌∙◌, subst}
+use Rattle.std.proofs.Common.{◌≡◌, ℕ, zero, suc, List, [], ◌∷◌, length, map, Some, None, refl, sym, ap, ◌∙◌}
 use Rattle.std.specs.Prelude.{slice_get}
 use Rattle.cluster_model.specs.Cluster as plain
 use Rattle.cluster_model.specs.World as machine

@@ -1,6 +1,6 @@
 -- A world that was driven stands for a sound world of the machine, and so has what each of these has.
 use Rattle.std.proofs.Common.{◌≡◌, ◌≢◌, ⊎_elim, inl, inr, ℕ, zero, suc, ◌≤◌, Bool, true, false, ◌&&◌, nat_eq, eq-eqb, List, [], ◌∷◌, ◌++◌, length, Option, Some, None, refl, sym, ap, ◌∙◌, subst, arith, if◌then◌else◌}
-use Rattle.std.specs.Prelude.{IfSome}
+use Rattle.std.specs.Prelude.{IfSome, Result}
 use Rattle.std.specs.FinMap as fin
 use Rattle.io_edge.specs.Moments.{Passed}
 use Rattle.io_edge.proofs.Passing.{weaker}
@@ -12,64 +12,58 @@ use Rattle.object_model.specs.Lists.{Among}
 use Rattle.session_model.specs.Events.{NodeLife as life}
 use Rattle.cluster_model.specs.Cluster as plain
 use Rattle.cluster_model.specs.Cluster.{Slot, slot_at}
-use Rattle.cluster_model.specs.Parts.{Sound}
 use Rattle.cluster_model.specs.Deeds.{slot_up}
 use Rattle.cluster_model.specs.Rules.{ticket_at}
 use Rattle.cluster_model.specs.Room.{Flight}
-use Rattle.cluster_model.specs.Progress.Ask.{Done}
-use Rattle.cluster_model.specs.Steps as steps
+use Rattle.cluster_model.specs.Progress.{ask_of}
+use Rattle.cluster_model.specs.Progress.Ask.{Pending}
 use Rattle.cluster_model.specs.StepLaws.{HasCopyIn, IsFrontOf}
 use Rattle.cluster_model.specs.World as machine
 use Rattle.cluster_model.specs.World.{letters_of, cluster_of}
-use Rattle.cluster_model.specs.WorldLaws.{InPlan, opening_world}
-use Rattle.cluster_model.specs.Makes.{MakesStep}
-use Rattle.cluster_model.proofs.Opening.{opening_sound}
-use Rattle.cluster_model.proofs.Running.{steps_sound}
+use Rattle.cluster_model.specs.Makes as mail_makes
 use Rattle.cluster_model.proofs.Waiting.{pending_letter}
 use Rattle.cluster_model.proofs.Midst.{keep_in_midst}
-use Rattle.cluster_owes.specs.Outcomes as owes
+use Rattle.whole_world.specs.Seen as whole_seen
+use Rattle.whole_world.proofs.Projecting.{makes_seen}
+use Rattle.login_model.specs.Cluster as login
+use Rattle.login_model.specs.Progress.{ask_read}
+use Rattle.login_model.specs.Progress.ReadAsk.{Pending as ReadPending}
+use Rattle.login_model.specs.Readings.{ReadTicket}
+use Rattle.login_model.specs.Rules.{read_at}
+use Rattle.joint_model.specs.Joint.{read_node}
+use Rattle.joint_world.specs.Laws.{Stands}
+use Rattle.joint_world.specs.Makes.{MakesStep}
+use Rattle.joint_world.specs.World as joint_world
+use Rattle.joint_world.specs.World.{whole_world_of, mail_world_of}
+use Rattle.joint_world.proofs.SameStep.{makes_same}
+use Rattle.joint_world.proofs.Standing.{pending_flies as read_has_letter}
 use Rattle.node_store.specs.Disks.{View}
-use Rattle.whole_node.specs.Starting.{first_map}
 use Rattle.node_core.specs.Nodes.{node_seen}
+use Rattle.whole_node.specs.Nodes.{joint_seen}
 use Rattle.whole_node.specs.declared.node.WholeNode.{WholeNode}
+use Rattle.cluster_world.specs.Ended.{IsEnded}
 use Rattle.cluster_world.specs.Lives.{life_seen, of_node}
 use Rattle.cluster_world.specs.Stands.{SlotStands, SlotsStand}
 use Rattle.cluster_world.specs.Moments.{IsStopOf, StopsKeep}
+use Rattle.cluster_world.specs.Sound.{IsWhole}
+use Rattle.cluster_world.specs.Steps.{IsStep}
 use Rattle.cluster_world.specs.Worlds.{seen_life, state_of, disks_of, lives_of, disks_tell, StandsFor, disk_of_node}
-use Rattle.cluster_world.specs.Telling.{standing_on}
-use Rattle.cluster_world.specs.Seen.{step_seen, outcome_seen}
+use Rattle.cluster_world.specs.Telling.{standing_on, standing_in, reading_on, reading_in}
+use Rattle.cluster_world.specs.Seen.{step_seen, outcome_seen, whole_step, whole_outcome}
 use Rattle.cluster_world.specs.Outcomes.{Outcome, Awaited}
 use Rattle.cluster_world.specs.Owing.{AllBlind}
-use Rattle.cluster_world.specs.Lasting.{WasDriven, PendingHasLetter, IsJournalWith, ConfirmedInEveryImage}
+use Rattle.cluster_world.specs.Lasting.{WasDriven, HasLetter, AllHaveLetters, PendingHasLetter, IsJournalWith, ConfirmedInEveryImage}
 use Rattle.cluster_world.specs.declared.life.Life.{Life}
 use Rattle.cluster_world.specs.declared.life.Life.TheVariants.{Up, Down, Lost}
 use Rattle.cluster_world.specs.declared.world.World.{World}
+use Rattle.cluster_world.specs.declared.step.Step.{Step}
+use Rattle.cluster_world.specs.declared.step.Said.{Said}
+use Rattle.cluster_world.specs.declared.fault.StepFault.{StepFault}
 use Rattle.cluster_world.proofs.Still.{both_at, if_some}
 use Rattle.cluster_world.proofs.Chained.{stays}
-use Rattle.cluster_world.proofs.Owed.{mirror_all}
-
--- the machine makes a step for each outcome
-module _ (plan : Plan) (tells : Bool) where
-  step_sound : (old new : machine.World) (step : steps.Step) (outcome : steps.StepOutcome) → MakesStep plan tells old step outcome new → InPlan plan.nodes old.slots → Sound plan.confirm (cluster_of old)
-      → InPlan plan.nodes new.slots × Sound plan.confirm (cluster_of new)
-  step_sound old new step outcome made p s = steps_sound plan tells old new (record { step = step; outcome = outcome } ∷ []) (new, made, refl) p s
-
-  came_sound : (outcome : owes.Outcome) (begun : List owes.BegunCall) (old new : machine.World) → owes.Came plan tells outcome begun old new → InPlan plan.nodes old.slots → Sound plan.confirm (cluster_of old)
-      → InPlan plan.nodes new.slots × Sound plan.confirm (cluster_of new)
-  came_sound (owes.Outcome.Began k node asked ticket) begun old new came p s = step_sound old new (steps.Step.Begin node came.0) (steps.StepOutcome.Says (steps.Said.Begun ticket)) came.2 p s
-  came_sound (owes.Outcome.Fell k node asked) begun old new came p s = step_sound old new (steps.Step.Begin node came.0) came.1 came.4 p s
-  came_sound (owes.Outcome.Answers k asked ticket given) begun old new came p s = step_sound old new (steps.Step.AskFor ticket) (steps.StepOutcome.Says (steps.Said.Asked (Done came.0))) came.3 p s
-  came_sound (owes.Outcome.GaveUp k asked ticket) begun old new came p s = step_sound old new (steps.Step.GiveUp ticket) (steps.StepOutcome.Says steps.Said.Finished) came p s
-  came_sound (owes.Outcome.Ticked seconds) begun old new came p s = step_sound old new (steps.Step.Tick seconds) (steps.StepOutcome.Says steps.Said.Finished) came p s
-  came_sound (owes.Outcome.Other step outcome) begun old new came p s = step_sound old new step outcome came.1 p s
-
-  makes_sound : (outcomes : List owes.Outcome) (begun : List owes.BegunCall) (old new : machine.World) → owes.Makes plan tells outcomes begun old new → InPlan plan.nodes old.slots → Sound plan.confirm (cluster_of old)
-      → InPlan plan.nodes new.slots × Sound plan.confirm (cluster_of new)
-  makes_sound [] begun old new same p s =
-      (subst (λ (w : machine.World). InPlan plan.nodes w.slots) (sym same) p, subst (λ (w : machine.World). Sound plan.confirm (cluster_of w)) (sym same) s)
-  makes_sound (outcome ∷ more) begun old new (mid, came, makes) p s =
-      let one = came_sound outcome begun old mid came p s in
-      makes_sound more (begun ++ owes.begun_by_outcome outcome) mid new makes one.0 one.1
+use Rattle.cluster_world.proofs.Leading.{step_alike, outcome_alike}
+use Rattle.cluster_world.proofs.Owed.{mirror_all, opened_so}
+use Rattle.cluster_world.proofs.ReadSlots.{up_for}
 
 -- the letter of a number flies
 flight_of : (letter : Letter) (flights : List Flight) → Among letter (letters_of flights) → (flight : Flight) × Among flight flights × (flight.letter ≡ letter)
@@ -85,25 +79,23 @@ found_own own node number ticket e = by (nat_eq number.node own) refl e
     by true same f = ap (λ a. if a && nat_eq number.boot node.boot then fin.get node.tickets number.seq else None) (eq-eqb number.node number.node refl) ∙ f
     by false other f = absurd (let never : None ≡ Some ticket = f in cc)
 
+-- messages see the step as their own
+seen_by_mail : (plan : Plan) (tells : Bool) (story : List (List login.Slot)) (v next : joint_world.World) (result : Result Said StepFault) (step : Step) → Stands plan tells story v
+    → MakesStep plan tells v (whole_step step) (whole_outcome result) next → mail_makes.MakesStep plan tells (mail_world_of v) (step_seen step) (outcome_seen result) (mail_world_of next)
+seen_by_mail plan tells story v next result step sound made =
+    subst (λ o. mail_makes.MakesStep plan tells (mail_world_of v) (step_seen step) o (mail_world_of next)) (outcome_alike result)
+    (subst (λ x. mail_makes.MakesStep plan tells (mail_world_of v) x (whole_seen.outcome_seen (whole_outcome result)) (mail_world_of next)) (step_alike step)
+    (makes_seen plan tells (whole_world_of v) (whole_world_of next) (whole_step step) (whole_outcome result) (makes_same plan tells story v sound (whole_step step) (whole_outcome result) next made)))
+
 module _ {D : Type 0} (on : View D) where
   -- a sound world of the machine for which it stands
-  record Sure (plan : Plan) (last : World D) : Type 0 where
-    w : machine.World
-    stands : StandsFor on last w
-    in_plan : InPlan plan.nodes w.slots
-    sound : Sound plan.confirm (cluster_of w)
-
-  sure : (plan : Plan) (lines : List (List ℕ)) (outcomes : List Outcome) (left : List Awaited) (start last : World D) → WasDriven on plan lines outcomes left start last → Sure plan last
-  sure plan lines outcomes left start last d =
+  pub driven_whole : (plan : Plan) (lines : List (List ℕ)) (outcomes : List Outcome) (left : List Awaited) (start last : World D) → WasDriven on plan lines outcomes left start last → IsWhole on plan last
+  driven_whole plan lines outcomes left start last d =
       let s = stays on outcomes [] left start last d.makes in
       let told = disks_tell on.seen last in
       let few : plan.nodes ≤ 64 = omega (arith, start.nodes.few, ap (λ (p : Plan). p.nodes) d.begins.plan_is) in
-      let m = mirror_all on plan told lines few outcomes [] [] left start last (record { plan_is = d.begins.plan_is; told_is = sym s.told })
-      (record { outs = []; next = opening_world plan.nodes (first_map plan); makes = refl; stands = d.begins.stands; asked = refl; answered = refl; within = λ one k. absurd k; sessions = λ lines of. tt })
-      (⊎_elim (λ t. inl (s.told ∙ t)) (λ b. inr (subst (λ (p : Plan). AllBlind p.nodes outcomes) d.begins.plan_is b)) d.known) d.sessions d.makes in
-      let opens = opening_sound plan.nodes plan.confirm (first_map plan) few in
-      let both = makes_sound plan told m.outs [] (opening_world plan.nodes (first_map plan)) m.next m.makes opens.0 opens.1 in
-      record { w = m.next; stands = m.stands; in_plan = both.0; sound = both.1 }
+      (mirror_all on plan told lines d.begins.some few outcomes [] [] left start last (record { plan_is = d.begins.plan_is; told_is = sym s.told }) (opened_so on plan told start d.begins)
+      (⊎_elim (λ t. inl (s.told ∙ t)) (λ b. inr (subst (λ (p : Plan). AllBlind p.nodes outcomes) d.begins.plan_is b)) d.known) d.sessions d.makes).whole
 
   -- the slot of a node that is up
   pub up_there : (n : ℕ) (node : WholeNode) (lives : List Life) (disks : List D) (slots : List Slot) → length disks ≡ length lives → SlotsStand on lives disks slots → of_node lives n ≡ Some (Up node)
@@ -115,21 +107,52 @@ module _ {D : Type 0} (on : View D) where
       let (seen, is, stood) = s.each k (Up node) d slot e held here in
       (slot.disk, here ∙ ap (λ l. Some (record { life = l; disk = slot.disk })) (is ∙ ap plain.Life.Up (sym stood.seen_is)))
 
+  module _ (plan : Plan) (last : World D) (h : IsWhole on plan last) where
+    abbrev even : length (disks_of last) ≡ length (lives_of last)
+    even = last.nodes.disk_each ∙ sym last.nodes.all
+
+    in_flight : (number : Number) (letter : Letter) → Among letter (letters_of h.v.flying) → letter.ticket ≡ Some number → HasLetter last number
+    in_flight number letter inside is =
+        let (flight, flies, same) = flight_of letter h.v.flying inside in
+        (flight, subst (Among flight) (sym h.stands.mail.flying) flies, ap (λ (l : Letter). l.ticket) same ∙ is)
+
+    mail_letter : (number : Number) (ticket : plain.Ticket) → standing_in last number ≡ Some ticket → (got wanted : ℕ) → ask_of plan.confirm ticket ≡ Pending got wanted → HasLetter last number
+    mail_letter number ticket stands got wanted e = by (of_node (lives_of last) number.node) refl stands
+      where
+        by : (o : Option Life) → of_node (lives_of last) number.node ≡ o → standing_on o number ≡ Some ticket → HasLetter last number
+        by None here f = absurd (let never : None ≡ Some ticket = f in cc)
+        by (Some Down) here f = absurd (let never : None ≡ Some ticket = f in cc)
+        by (Some Lost) here f = absurd (let never : None ≡ Some ticket = f in cc)
+        by (Some (Up node)) here f =
+            let up = up_there number.node node (lives_of last) (disks_of last) (mail_world_of h.v).slots even h.stands.mail.slots here in
+            let (letter, inside, is) = pending_letter plan.confirm (cluster_of (mail_world_of h.v)) h.sound.whole.sound.mail number (node_seen node.mail) up.0 ticket up.1 (found_own node.mail.store.own (node_seen node.mail) number ticket f) got wanted e in
+            in_flight number letter inside is
+
+    read_letter : (number : Number) (ticket : ReadTicket) → reading_in last number ≡ Some ticket → (got wanted : ℕ) → ask_read ticket ticket.reading ≡ ReadPending got wanted → HasLetter last number
+    read_letter number ticket stands got wanted e = by number.node (of_node (lives_of last) number.node) refl stands
+      where
+        up_case : (node : WholeNode) → of_node (lives_of last) number.node ≡ Some (Up node) → read_at number.node (read_node true (joint_seen node)) (Some number) ≡ Some ticket → (disk : D) → of_node (disks_of last) number.node ≡ Some disk
+            → HasLetter last number
+        up_case node here f disk held =
+            let up = up_for on (lives_of last) (disks_of last) h.v.slots (record { mail = h.stands.mail.slots; maps = h.stands.maps; reads = h.stands.reads }) number.node node disk here held in
+            let (letter, inside, is) = read_has_letter plan (disks_tell on.seen last) h.story h.v h.sound number (record { node = joint_seen node; disk = up.records; up = up.here; ticket = ticket; here = f }) got wanted e in
+            in_flight number letter inside is
+
+        with_disk : (n : ℕ) (node : WholeNode) → of_node (lives_of last) n ≡ Some (Up node) → (disk : D) × (of_node (disks_of last) n ≡ Some disk)
+        with_disk zero node here = absurd (let never : None ≡ Some (Up node) = here in cc)
+        with_disk (suc k) node here = both_at (disks_of last) (lives_of last) k (Up node) (sym even) here
+
+        by : (n : ℕ) (o : Option Life) → of_node (lives_of last) number.node ≡ o → reading_on o number ≡ Some ticket → HasLetter last number
+        by n None here f = absurd (let never : None ≡ Some ticket = f in cc)
+        by n (Some Down) here f = absurd (let never : None ≡ Some ticket = f in cc)
+        by n (Some Lost) here f = absurd (let never : None ≡ Some ticket = f in cc)
+        by n (Some (Up node)) here f = let (disk, held) = with_disk number.node node here in up_case node here f disk held
+
+    pub all_have_letters : AllHaveLetters plan.confirm last
+    all_have_letters = record { mails = mail_letter; reads = read_letter }
+
   pub pending_has_letter : PendingHasLetter on
-  pending_has_letter plan lines outcomes left start last d number ticket stands got wanted e =
-      let s = sure plan lines outcomes left start last d in
-      by s (of_node (lives_of last) number.node) refl stands
-    where
-      by : Sure plan last → (o : Option Life) → of_node (lives_of last) number.node ≡ o → standing_on o number ≡ Some ticket
-          → (flight : Flight) × Among flight (state_of last).flying.flights × (flight.letter.ticket ≡ Some number)
-      by s None here f = absurd (let never : None ≡ Some ticket = f in cc)
-      by s (Some Down) here f = absurd (let never : None ≡ Some ticket = f in cc)
-      by s (Some Lost) here f = absurd (let never : None ≡ Some ticket = f in cc)
-      by s (Some (Up node)) here f =
-          let up = up_there number.node node (lives_of last) (disks_of last) s.w.slots (last.nodes.disk_each ∙ sym last.nodes.all) s.stands.slots here in
-          let (letter, inside, is) = pending_letter plan.confirm (cluster_of s.w) s.sound number (node_seen node.mail) up.0 ticket up.1 (found_own node.mail.store.own (node_seen node.mail) number ticket f) got wanted e in
-          let (flight, flies, same) = flight_of letter s.w.flying inside in
-          (flight, subst (Among flight) (sym s.stands.flying) flies, ap (λ (l : Letter). l.ticket) same ∙ is)
+  pending_has_letter plan lines outcomes left start last d = all_have_letters plan last (driven_whole plan lines outcomes left start last d)
 
   -- a node that is not lost has a slot that is not
   alive : (n : ℕ) (one : Life) (disk : D) (slot : Slot) → SlotStands on n one disk slot → (life_seen one ≡ life.Lost → ⊥) → slot.life ≢ plain.Life.Lost
@@ -180,19 +203,19 @@ module _ {D : Type 0} (on : View D) where
 
   pub confirmed_in_every_image : ConfirmedInEveryImage on
   confirmed_in_every_image plan lines outcomes left start mid last d result step known ended is =
-      let s = sure plan lines outcomes left start mid d in
-      let l = is.did.leads known ended s.w s.stands in
+      let h = driven_whole plan lines outcomes left start mid d in
+      let tells = disks_tell on.seen mid in
       let plan_is = (stays on outcomes [] left start mid d.makes).plan ∙ d.begins.plan_is in
-      let made : MakesStep plan (disks_tell on.seen mid) s.w (step_seen step) (outcome_seen result) l.next =
-      subst (λ (p : Plan). MakesStep p (disks_tell on.seen mid) s.w (step_seen step) (outcome_seen result) l.next) plan_is l.made in
-      let k = keep_in_midst plan (disks_tell on.seen mid) s.w l.next (step_seen step) (outcome_seen result) made s.in_plan s.sound in
+      let l = is.did.leads known ended h.story h.v h.stands (subst (λ (p : Plan). Stands p tells h.story h.v) (sym plan_is) h.sound) in
+      let made : MakesStep plan tells h.v (whole_step step) (whole_outcome result) l.next = subst (λ (p : Plan). MakesStep p tells h.v (whole_step step) (whole_outcome result) l.next) plan_is l.made in
+      let k = keep_in_midst plan tells (mail_world_of h.v) (mail_world_of l.next) (step_seen step) (outcome_seen result) (seen_by_mail plan tells h.story h.v l.next result step h.sound made) h.sound.whole.in_plan h.sound.whole.sound.mail in
       record {
         acknowledged = λ copy acked unstruck m counts not_lost disk disk' e f.
-            let b = both_slots mid last s.w l.next s.stands l.stands m disk disk' e f not_lost in
-            front_of mid last s.w l.next s.stands l.stands m disk disk' b.slot b.slot' (l.stops.each m disk disk' b.slot b.slot' e f b.here b.there b.alive_is) (HasCopyIn copy)
-            (k.acknowledged copy (subst (Among _) l.stands.book acked) (λ struck. unstruck (subst (Among _) (sym l.stands.book) struck)) m counts b.slot b.slot' b.here b.there);
+            let b = both_slots mid last (mail_world_of h.v) (mail_world_of l.next) h.stands.mail l.stands.mail m disk disk' e f not_lost in
+            front_of mid last (mail_world_of h.v) (mail_world_of l.next) h.stands.mail l.stands.mail m disk disk' b.slot b.slot' (l.stops.each m disk disk' b.slot b.slot' e f b.here b.there b.alive_is) (HasCopyIn copy)
+            (k.acknowledged copy (subst (Among _) l.stands.mail.book acked) (λ struck. unstruck (subst (Among _) (sym l.stands.mail.book) struck)) m counts b.slot b.slot' b.here b.there);
         dropped = λ user id confirmers dropped m counts not_lost disk disk' e f.
-            let b = both_slots mid last s.w l.next s.stands l.stands m disk disk' e f not_lost in
-            front_of mid last s.w l.next s.stands l.stands m disk disk' b.slot b.slot' (l.stops.each m disk disk' b.slot b.slot' e f b.here b.there b.alive_is) (SaysGone (Message user id))
-            (k.dropped user id confirmers (subst (Among _) l.stands.book dropped) m counts b.slot b.slot' b.here b.there);
+            let b = both_slots mid last (mail_world_of h.v) (mail_world_of l.next) h.stands.mail l.stands.mail m disk disk' e f not_lost in
+            front_of mid last (mail_world_of h.v) (mail_world_of l.next) h.stands.mail l.stands.mail m disk disk' b.slot b.slot' (l.stops.each m disk disk' b.slot b.slot' e f b.here b.there b.alive_is) (SaysGone (Message user id))
+            (k.dropped user id confirmers (subst (Among _) l.stands.mail.book dropped) m counts b.slot b.slot' b.here b.there);
       }

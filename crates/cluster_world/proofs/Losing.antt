@@ -25,7 +25,7 @@ use Rattle.cluster_world.specs.Worlds.{seen_life, life_among, state_with, StateS
 use Rattle.cluster_world.specs.Changes.{ChangesNode, IsTurnedTo}
 use Rattle.cluster_world.specs.Turns.{life_refusal, node_refusal}
 use Rattle.cluster_world.specs.Moments.{StopsKeep}
-use Rattle.cluster_world.specs.Steps.{StepDid, LeadsTo}
+use Rattle.cluster_world.specs.Steps.{StepDid, LeadsMail}
 use Rattle.cluster_world.specs.declared.life.Life.{Life}
 use Rattle.cluster_world.specs.declared.life.Life.TheVariants.{Up, Down, Lost}
 use Rattle.cluster_world.specs.declared.nodes.Nodes.{Nodes}
@@ -38,6 +38,8 @@ use Rattle.cluster_world.proofs.Falling.{lose_here, entries_more}
 use Rattle.cluster_world.proofs.Longer.{longer_by}
 use Rattle.cluster_world.proofs.Follows.{fall_follows}
 use Rattle.cluster_world.proofs.Wholly.{led, even_of}
+use Rattle.cluster_world.proofs.Lifting.{lift}
+use Rattle.cluster_world.proofs.Beside.{alone_keeps}
 
 module _ {D : Type 0} (on : View D) (own : ℕ) (disk : D) (slot : Slot) where
   abbrev lost_with : List Record → Slot
@@ -116,7 +118,7 @@ module _ {D : Type 0} (on : View D) (n : ℕ) (old new : Nodes D) (book book' : 
   was_here = lose_here n ch.life (ap (life_refusal (step.Lose n)) (sym (ap seen_life ch.was)) ∙ (fit_of (list_all (is_node old.plan) (n ∷ [])) (life_refusal (step.Lose n) (life_among old n)) fit).1)
 
   lose_leads : entries_of book' ≡ entries_of book ++ written.Lost n ∷ [] → (w : machine.World) → StateStandsFor on (state_with old flying seconds book) w
-      → LeadsTo on (Ok Done) (step.Lose n) (state_with old flying seconds book) (state_with new flying seconds book') w
+      → LeadsMail on (Ok Done) (step.Lose n) (state_with old flying seconds book) (state_with new flying seconds book') w
   lose_leads wrote w st =
       let (slot, here, stood) = slot_of on old.lives.items old.disks.items w.slots n ch.life ch.disk st.slots ch.was ch.held in
       let so = lost_so on n ch.disk slot ch.life was_here (image ch.disk) stood in
@@ -125,7 +127,7 @@ module _ {D : Type 0} (on : View D) (n : ℕ) (old new : Nodes D) (book book' : 
       subst (λ d. SlotStands on n ch.life' d turned_slot) (sym ch.does.1) (subst (λ l. SlotStands on n l ch.disk turned_slot) (sym ch.does.0) so.stands) in
       let kept : StopsKeep on n ch.disk ch.disk' slot turned_slot =
       subst (λ d. StopsKeep on n ch.disk d slot turned_slot) (sym ch.does.1) (lost_keeps on n ch.disk slot ch.life so.kept so.pending_is so.alive stood) in
-      led on (Ok Done) (step.Lose n) (state_with old flying seconds book) (state_with new flying seconds book') (even_of old) (even_of new) w st (record { step_is = refl; said_is = refl; sees = λ unseen. unseen }) (λ v seen sound done. tt) (record {
+      led on (Ok Done) (step.Lose n) (state_with old flying seconds book) (state_with new flying seconds book') (even_of old) (even_of new) w st (record { step_is = refl; said_is = refl; sees = tt }) (λ v seen sound done. tt) (record {
         next = record w { slots = plain.with_slot w.slots n turned_slot; book = w.book ++ entries_seen (written.Lost n ∷ []) };
         stands = stands_now n (IsTurnedTo Lost) old new ch on flying seconds book book' (entries_seen (written.Lost n ∷ []))
             (ap entries_seen wrote ∙ entries_more (entries_of book) (written.Lost n ∷ [])) w st turned_slot stands';
@@ -150,9 +152,10 @@ module _ {D : Type 0} (on : View D) (n : ℕ) (old new : Nodes D) (book book' : 
         (subst (λ d. on.faults ch.disk ≤ on.faults d) (sym ch.does.1) (omega arith))
         (λ boot up. absurd (let never : life.Lost ≡ life.Up boot = sym (ap life_seen ch.does.0) ∙ up in cc));
     clock = refl;
-    lighter = tt;
+    passed = tt;
     books = longer_by book book' (written.Lost n ∷ []) wrote;
     kept = tt;
-    leads = λ known ended w st. lose_leads wrote w st;
+    leads = λ known ended. lift on _ _ _ _ (even_of old) (even_of new) tt (λ v stands done. tt)
+        (alone_keeps n (IsTurnedTo Lost) old new ch (λ b up. absurd (let never : Lost ≡ Up b = sym ch.does.0 ∙ up in cc))) (lose_leads wrote);
     cause = λ w st. tt;
   }

@@ -5,12 +5,14 @@ use Rattle.std.proofs.lemmas.Grind.{flat_map-append}
 use Rattle.mail_model.specs.Plan.{Plan}
 use Rattle.object_model.specs.Lists.{Among}
 use Rattle.object_model.proofs.Lists.{among_front, among_behind}
-use Rattle.cluster_model.specs.World as machine
-use Rattle.cluster_model.specs.Makes.{MakesStep}
+use Rattle.cluster_model.specs.Steps as mail
+use Rattle.whole_world.specs.Seen as whole_seen
+use Rattle.joint_world.specs.World as joint
 use Rattle.cluster_owes.specs.Outcomes as owes
 use Rattle.node_store.specs.Disks.{View}
-use Rattle.cluster_world.specs.Worlds.{plan_of, disks_tell, StandsFor}
-use Rattle.cluster_world.specs.Seen.{step_seen, outcome_seen}
+use Rattle.cluster_world.specs.Worlds.{plan_of, disks_tell}
+use Rattle.cluster_world.specs.Seen.{step_seen, outcome_seen, whole_step, whole_outcome}
+use Rattle.cluster_world.specs.Sound.{IsWhole}
 use Rattle.cluster_world.specs.Ended.{IsEnded}
 use Rattle.cluster_world.specs.Steps.{IsBlind, IsStep}
 use Rattle.cluster_world.specs.Outcomes.{Outcome, Awaited, asked_by_outcome, answered_by_outcome}
@@ -19,6 +21,7 @@ use Rattle.cluster_world.specs.declared.world.World.{World}
 use Rattle.cluster_world.specs.declared.step.Step.{Step}
 use Rattle.cluster_world.specs.declared.step.Said.{Said}
 use Rattle.cluster_world.specs.declared.fault.StepFault.{StepFault}
+use Rattle.cluster_world.proofs.Leading.{LedWhole, led_whole, step_alike, outcome_alike}
 
 abbrev pub begun_of : Awaited → owes.BegunCall
 begun_of one = record { ticket = one.ticket; session = one.session; call = one.call }
@@ -31,21 +34,14 @@ abbrev pub begun_with : List owes.BegunCall → List owes.Outcome → List owes.
 begun_with begun outs = begun ++ flat_map owes.begun_by_outcome outs
 
 -- what the machine makes of these outcomes
-pub record Mirrored {D : Type 0} (on : View D) (plan : Plan) (disks_tell : Bool) (outcomes : List Outcome) (left : List Awaited) (begun : List owes.BegunCall) (w : machine.World) (new : World D) : Type 0 where
+pub record Mirrored {D : Type 0} (on : View D) (plan : Plan) (disks_tell : Bool) (outcomes : List Outcome) (left : List Awaited) (begun : List owes.BegunCall) (w : joint.World) (new : World D) : Type 0 where
   pub outs : List owes.Outcome
-  pub next : machine.World
-  pub makes : owes.Makes plan disks_tell outs begun w next
-  pub stands : StandsFor on new next
+  pub whole : IsWhole on plan new
+  pub makes : owes.Makes plan disks_tell outs begun w whole.v
   pub asked : flat_map owes.asked_by_outcome outs ≡ flat_map asked_by_outcome outcomes
   pub answered : flat_map owes.answered_by_outcome outs ≡ flat_map answered_by_outcome outcomes
   pub within : HaveBegun left (begun_with begun outs)
   pub sessions : (lines : List (List ℕ)) → AreOfSessions lines outcomes → owes.AreOfSessions lines outs
-
--- what the machine makes of one step
-pub record Led {D : Type 0} (on : View D) (plan : Plan) (disks_tell : Bool) (result : Result Said StepFault) (step : Step) (w : machine.World) (new : World D) : Type 0 where
-  pub next : machine.World
-  pub stands : StandsFor on new next
-  pub made : MakesStep plan disks_tell w (step_seen step) (outcome_seen result) next
 
 module _ {D : Type 0} (on : View D) (plan : Plan) (told : Bool) where
   -- the world is of this plan, and its disks tell so
@@ -54,25 +50,22 @@ module _ {D : Type 0} (on : View D) (plan : Plan) (told : Bool) where
     pub told_is : disks_tell on.seen world ≡ told
 
   pub led : (result : Result Said StepFault) (step : Step) (old new : World D) → IsOf old → (told ≡ true) ⊎ IsBlind plan.nodes step → IsEnded step → IsStep on result step old new
-      → (w : machine.World) → StandsFor on old w → Led on plan told result step w new
-  led result step old new of known ended is w stands =
-      let l = is.did.leads (⊎_elim (λ t. inl (of.told_is ∙ t)) (λ b. inr (subst (λ (p : Plan). IsBlind p.nodes step) (sym of.plan_is) b)) known) ended w stands in
-      record {
-        next = l.next;
-        stands = l.stands;
-        made = subst (λ t. MakesStep plan t w (step_seen step) (outcome_seen result) l.next) of.told_is
-            (subst (λ (p : Plan). MakesStep p (disks_tell on.seen old) w (step_seen step) (outcome_seen result) l.next) of.plan_is l.made);
-      }
+      → (h : IsWhole on plan old) → LedWhole on plan told result step old new h
+  led result step old new of known ended is h = led_whole on plan told result step old new of.plan_is of.told_is known ended is h
+
+  idle_alike : (step : Step) (result : Result Said StepFault) → owes.IsIdleStep (step_seen step) (outcome_seen result) → owes.IsIdleStep (whole_seen.step_seen (whole_step step)) (whole_seen.outcome_seen (whole_outcome result))
+  idle_alike step result idle =
+      subst (λ (s : mail.Step). owes.IsIdleStep s (whole_seen.outcome_seen (whole_outcome result))) (sym (step_alike step))
+      (subst (λ (o : mail.StepOutcome). owes.IsIdleStep (step_seen step) o) (sym (outcome_alike result)) idle)
 
   -- one step of which no session hears
-  pub quiet_one : (outcomes : List Outcome) (awaited left : List Awaited) (begun : List owes.BegunCall) (w : machine.World) (new : World D) (result : Result Said StepFault) (step : Step)
-      → Led on plan told result step w new → owes.IsIdleStep (step_seen step) (outcome_seen result) → flat_map asked_by_outcome outcomes ≡ [] → flat_map answered_by_outcome outcomes ≡ []
-      → HaveBegun awaited begun → ((one : Awaited) → Among one left → Among one awaited) → Mirrored on plan told outcomes left begun w new
-  quiet_one outcomes awaited left begun w new result step l other no_asked no_answer within fewer = record {
-    outs = owes.Outcome.Other (step_seen step) (outcome_seen result) ∷ [];
-    next = l.next;
-    makes = (l.next, (other, l.made), refl);
-    stands = l.stands;
+  pub quiet_one : (outcomes : List Outcome) (awaited left : List Awaited) (begun : List owes.BegunCall) (old new : World D) (h : IsWhole on plan old) (result : Result Said StepFault) (step : Step)
+      → LedWhole on plan told result step old new h → owes.IsIdleStep (step_seen step) (outcome_seen result) → flat_map asked_by_outcome outcomes ≡ [] → flat_map answered_by_outcome outcomes ≡ []
+      → HaveBegun awaited begun → ((one : Awaited) → Among one left → Among one awaited) → Mirrored on plan told outcomes left begun h.v new
+  quiet_one outcomes awaited left begun old new h result step l other no_asked no_answer within fewer = record {
+    outs = owes.Outcome.Other (whole_step step) (whole_outcome result) ∷ [];
+    whole = l.whole;
+    makes = (l.whole.v, (idle_alike step result other, l.made), refl);
     asked = sym no_asked;
     answered = sym no_answer;
     within = λ one m. among_front (begun_of one) begun [] (within one (fewer one m));
@@ -80,7 +73,7 @@ module _ {D : Type 0} (on : View D) (plan : Plan) (told : Bool) where
   }
 
   -- the machine makes both, one after the other
-  pub makes_both : (xs ys : List owes.Outcome) (begun : List owes.BegunCall) (u v w : machine.World) → owes.Makes plan told xs begun u v → owes.Makes plan told ys (begun_with begun xs) v w
+  pub makes_both : (xs ys : List owes.Outcome) (begun : List owes.BegunCall) (u v w : joint.World) → owes.Makes plan told xs begun u v → owes.Makes plan told ys (begun_with begun xs) v w
       → owes.Makes plan told (xs ++ ys) begun u w
   makes_both [] ys begun u v w is more = subst (λ s. owes.Makes plan told ys begun s w) is (subst (λ b. owes.Makes plan told ys b v w) (append-nil begun) more)
   makes_both (x ∷ xs) ys begun u v w (mid, came, makes) more = (
@@ -98,13 +91,12 @@ module _ {D : Type 0} (on : View D) (plan : Plan) (told : Bool) where
       → flat_map f xs ≡ flat_map g outcomes → flat_map f ys ≡ flat_map g more → flat_map f (xs ++ ys) ≡ flat_map g (outcomes ++ more)
   both_flat f g xs ys outcomes more p q = flat_map-append f xs ys ∙ rw (p, q) refl ∙ sym (flat_map-append g outcomes more)
 
-  pub joined : (outcomes more : List Outcome) (between left : List Awaited) (begun : List owes.BegunCall) (w : machine.World) (mid new : World D)
-      → (a : Mirrored on plan told outcomes between begun w mid) → Mirrored on plan told more left (begun_with begun a.outs) a.next new → Mirrored on plan told (outcomes ++ more) left begun w new
+  pub joined : (outcomes more : List Outcome) (between left : List Awaited) (begun : List owes.BegunCall) (w : joint.World) (mid new : World D)
+      → (a : Mirrored on plan told outcomes between begun w mid) → Mirrored on plan told more left (begun_with begun a.outs) a.whole.v new → Mirrored on plan told (outcomes ++ more) left begun w new
   joined outcomes more between left begun w mid new a b = record {
     outs = a.outs ++ b.outs;
-    next = b.next;
-    makes = makes_both a.outs b.outs begun w a.next b.next a.makes b.makes;
-    stands = b.stands;
+    whole = b.whole;
+    makes = makes_both a.outs b.outs begun w a.whole.v b.whole.v a.makes b.makes;
     asked = both_flat owes.asked_by_outcome asked_by_outcome a.outs b.outs outcomes more a.asked b.asked;
     answered = both_flat owes.answered_by_outcome answered_by_outcome a.outs b.outs outcomes more a.answered b.answered;
     within = λ one m. subst (Among (begun_of one)) (append_assoc begun (flat_map owes.begun_by_outcome a.outs) (flat_map owes.begun_by_outcome b.outs)

@@ -7,7 +7,7 @@ use Rattle.mail_model.specs.Plan.{Plan}
 use Rattle.mail_model.specs.Record.{Record}
 use Rattle.mail_model.specs.Book.BookEntry.{WentDown}
 use Rattle.object_model.specs.Lists.{Among}
-use Rattle.object_model.specs.Letters.{Membership, Letter}
+use Rattle.object_model.specs.Letters.{Membership, Letter, is_read_body}
 use Rattle.object_model.specs.Mishaps.{MishapKind as mishap}
 use Rattle.session_model.specs.Events.{NodeLife, NodeLife as life, turned}
 use Rattle.cluster_model.specs.Cluster as plain
@@ -18,7 +18,7 @@ use Rattle.cluster_model.specs.Thrown.{is_stale, is_late, thrown_by, with_stamps
 use Rattle.cluster_model.specs.World as machine
 use Rattle.cluster_model.specs.World.{Flies, flies_on, missed}
 use Rattle.cluster_model.specs.Forms.{IsMapsBody, IsPlainMaps, promise_records}
-use Rattle.cluster_model.specs.Makes.{IsUp, IsHeardOrThrown, Posts, RunsShort, NodeGoesDown, lost_letter, cut_world, after}
+use Rattle.cluster_model.specs.Makes.{IsUp, IsHeardOrThrown, Posts, RunsShort, NodeGoesDown, lost_letter, cut_world, after, posted_letter}
 use Rattle.cluster_model.specs.Steps as steps
 use Rattle.cluster_model.specs.Steps.{letter_at, letters_end, first_fault, step_fault}
 use Rattle.cluster_model.specs.Steps.StepFault.{NoSuchLetter, Worn}
@@ -34,7 +34,6 @@ use Rattle.node_maps.specs.Nodes.{node_of, own_of}
 use Rattle.node_store.specs.Disks.{View}
 use Rattle.node_core.specs.Hearing.{why_seen}
 use Rattle.node_core.specs.Nodes.{node_seen, IsAsBefore}
-use Rattle.node_core.specs.Weights.{weight_of, weight_of_all}
 use Rattle.node_core.specs.Works.{Rule, NodeDid}
 use Rattle.whole_node.specs.Following as node_follows
 use Rattle.whole_node.specs.Hearing.{LookedAt}
@@ -46,17 +45,17 @@ use Rattle.world_book.specs.declared.book.Book.{Book}
 use Rattle.world_book.specs.declared.entry.Entry.TheVariants as written
 use Rattle.cluster_world.specs.Books.{entries_seen, booked_by}
 use Rattle.cluster_world.specs.Forming.{forms_rule}
-use Rattle.cluster_world.specs.Flights.{InFlight, AreInOrder, flights_without, taken_out, put_down, weight_of_flights}
+use Rattle.cluster_world.specs.Flights.{InFlight, AreInOrder, flights_without, taken_out, put_down}
 use Rattle.cluster_world.specs.Lives.{life_seen, is_up_life, of_node}
 use Rattle.cluster_world.specs.Stands.{SlotStands}
 use Rattle.cluster_world.specs.Worlds.{WorldState, seen_life, life_among, state_with, tells_in, StateStandsFor}
 use Rattle.cluster_world.specs.Changes.{ChangesNode}
-use Rattle.cluster_world.specs.Maps.{AreMaps}
+use Rattle.cluster_world.specs.Maps.{AreMaps, StandsForAll}
 use Rattle.cluster_world.specs.Missing.{OnlyTickets, Noticed, SentOff}
 use Rattle.cluster_world.specs.Posts.{out_of, IsEntered}
 use Rattle.cluster_world.specs.Seen.{said_seen, whole_said}
 use Rattle.cluster_world.specs.Turns.{life_after_step}
-use Rattle.cluster_world.specs.Steps.{StepDid, LeadsWhole, IsLighter, WasToWork, SaysSo, FallsSo, FaultHasCause}
+use Rattle.cluster_world.specs.Steps.{StepDid, LeadsWhole, WasToWork, SaysSo, FallsSo, FaultHasCause, HasPassed}
 use Rattle.cluster_world.specs.declared.life.Life.{Life}
 use Rattle.cluster_world.specs.declared.life.Life.TheVariants.{Up, Down, Lost}
 use Rattle.cluster_world.specs.declared.nodes.Nodes.{Nodes}
@@ -69,23 +68,28 @@ use Rattle.cluster_world.proofs.Still.{some_same, both_at, nothing_read}
 use Rattle.cluster_world.proofs.Same.{led_kept, same_stops, same_told, same_quiet, same_unchanged}
 use Rattle.cluster_world.proofs.Kept.{missed_kept, stops_on, only_told, only_quiet}
 use Rattle.cluster_world.proofs.Falling.{entries_more}
-use Rattle.cluster_world.proofs.Posted.{Standing, standing, some_weight, weight_taken, weight_put}
+use Rattle.cluster_world.proofs.Posted.{Standing, standing}
 use Rattle.cluster_world.proofs.AfterWork.{nothing_else, work_did, work_goes_on, work_lives, up_slot, up_is, WorkSent, work_sent, CutSlot, cut_stands, cut_stops, sent_follows, cut_follows, idle_stands, idle_stops, idle_maps}
-use Rattle.cluster_world.proofs.Unchanged.{unchanged_by, node_kept}
+use Rattle.cluster_world.proofs.Unchanged.{unchanged_by, memory_kept}
 use Rattle.cluster_world.proofs.Longer.{same_book, longer_by}
 use Rattle.cluster_world.proofs.Follows.{disk_at, drop_front, missed_disk, tickets_follow}
 use Rattle.cluster_world.proofs.Numbers.{one_letter}
 use Rattle.cluster_world.proofs.Told.{IsOfMail}
 use Rattle.cluster_world.proofs.WholeForms.{up_whole, looked_whole, hear_fails, hear_short}
 use Rattle.cluster_world.proofs.Wholly.{led, led_whole, even_of}
+use Rattle.cluster_world.proofs.Lifting.{lift}
+use Rattle.cluster_world.proofs.Beside.{OwnKept, tickets_keep, turns_same}
+use Rattle.cluster_world.proofs.Passing.{left_passed, sent_passed}
+use Rattle.joint_world.specs.World as joint_world
+use Rattle.joint_world.specs.World.{mail_world_of as mail_world}
 
 -- what makes the machine refuse a post
 module _ (plan : Plan) (w : machine.World) (number : ℕ) (keep : Bool) where
   pub post_fault : (o : Option Letter) (b : Bool) → letter_at number w.flying ≡ o → nat_le letters_end w.sent ≡ b
-      → step_fault plan (steps.Step.Post number keep) w ≡ first_fault ((if is_some o then None else Some NoSuchLetter) ∷ None ∷ (if b || false then Some Worn else None) ∷ None ∷ [])
+      → step_fault plan (steps.Step.Post number keep) w ≡ first_fault ((if is_some o then None else Some NoSuchLetter) ∷ (if b || false then Some Worn else None) ∷ None ∷ [])
   post_fault o b e f =
-      ap (λ x. first_fault ((if is_some x then None else Some NoSuchLetter) ∷ None ∷ (if nat_le letters_end w.sent || false then Some Worn else None) ∷ None ∷ [])) e
-      ∙ ap (λ x. first_fault ((if is_some o then None else Some NoSuchLetter) ∷ None ∷ (if x || false then Some Worn else None) ∷ None ∷ [])) f
+      ap (λ x. first_fault ((if is_some x then None else Some NoSuchLetter) ∷ (if nat_le letters_end w.sent || false then Some Worn else None) ∷ None ∷ [])) e
+      ∙ ap (λ x. first_fault ((if is_some o then None else Some NoSuchLetter) ∷ (if x || false then Some Worn else None) ∷ None ∷ [])) f
 
 -- where the letter is
 abbrev pub flies_of : (w : machine.World) (number : ℕ) (letter : Letter) → Standing w.flying number letter → Flies w number
@@ -187,6 +191,21 @@ two_reasons false true x e = inr (one x e)
     one x e = cc
 two_reasons false false x e = absurd (let never : None ≡ Some x = e in cc)
 
+-- The letters in flight are in order, and this one is of no call that reads.
+pub record IsPosted (flying : InFlight) (letter : Letter) : Type 0 where
+  pub order : AreInOrder flying
+  pub mail : is_read_body letter.body ≡ false
+
+-- the letter that was posted flies
+flown : {plan : Plan} {w : machine.World} {number : ℕ} {keep : Bool} {said : steps.Said} {next : machine.World} (posts : Posts plan w number keep said next) → (flies : Flies w number) × (posted_letter posts ≡ flies.letter)
+flown (Posts.NobodyUp flies nobody is e) = (flies, refl)
+flown (Posts.OfOtherEpoch flies node disk up thrown is e) = (flies, refl)
+flown (Posts.TooLate flies node disk up thrown is e) = (flies, refl)
+flown (Posts.IsHeard flies node disk up thrown is e) = (flies, refl)
+flown (Posts.FailsHearing flies node disk up thrown is down g e) = (flies, refl)
+flown (Posts.IsForMaps flies node disk up of fresh is did forms e) = (flies, refl)
+flown (Posts.FailsForMaps flies node disk promise up of fresh is down g e) = (flies, refl)
+
 module _ {D : Type 0} (on : View D) (old : Nodes D) (flying : InFlight) (seconds : ℕ) (book : Book) (number : ℕ) (keep : Bool) where
   abbrev before : WorldState D
   before = state_with old flying seconds book
@@ -196,7 +215,7 @@ module _ {D : Type 0} (on : View D) (old : Nodes D) (flying : InFlight) (seconds
     plan = refl;
     handed = refl;
     clock = refl;
-    lighter = tt;
+    passed = tt;
     books = same_book (booked_by book);
     kept = same_unchanged on before (step.Post number keep);
     refused = refl;
@@ -205,12 +224,12 @@ module _ {D : Type 0} (on : View D) (old : Nodes D) (flying : InFlight) (seconds
     lives = λ n. refl;
     told = same_told on before;
     quiet = same_quiet on before;
-    leads = λ known ended w st. led_kept on before (Err fault.NoSuchLetter) (step.Post number keep) w st (record { step_is = refl; said_is = refl; sees = λ unseen. unseen }) (λ done. done)
-        (inl (inl (post_fault old.plan w number keep None (nat_le letters_end w.sent) (ap (letter_at number) (sym st.flying) ∙ none) refl)), refl);
+    leads = λ known ended story v st sound. led_kept on before (Err fault.NoSuchLetter) (step.Post number keep) v st (record { step_is = refl; said_is = refl; sees = tt }) tt (λ done. done)
+        (inl (inl (post_fault old.plan (mail_world v) number keep None (nat_le letters_end v.sent) (ap (letter_at number) (sym st.mail.flying) ∙ none) refl)), refl);
     cause = λ w st. tt;
   }
 
-  module _ (letter : Letter) (here : letter_at number flying.flights ≡ Some letter) (order : AreInOrder flying) where
+  module _ (letter : Letter) (here : letter_at number flying.flights ≡ Some letter) (order : IsPosted flying letter) where
     there : (w : machine.World) → StateStandsFor on before w → letter_at number w.flying ≡ Some letter
     there w st = ap (letter_at number) (sym st.flying) ∙ here
 
@@ -219,7 +238,7 @@ module _ {D : Type 0} (on : View D) (old : Nodes D) (flying : InFlight) (seconds
       plan = refl;
       handed = refl;
       clock = refl;
-      lighter = tt;
+      passed = tt;
       books = same_book (booked_by book);
       kept = same_unchanged on before (step.Post number keep);
       refused = refl;
@@ -228,24 +247,31 @@ module _ {D : Type 0} (on : View D) (old : Nodes D) (flying : InFlight) (seconds
       lives = λ n. refl;
       told = same_told on before;
       quiet = same_quiet on before;
-      leads = λ known ended w st. led_kept on before (Err fault.Worn) (step.Post number keep) w st (record { step_is = refl; said_is = refl; sees = λ unseen. unseen }) (λ done. done)
-          (inl (inl (post_fault old.plan w number keep (Some letter) true (there w st) (ap (nat_le letters_end) (sym st.sent) ∙ late))), refl);
+      leads = λ known ended story v st sound. led_kept on before (Err fault.Worn) (step.Post number keep) v st (record { step_is = refl; said_is = refl; sees = tt }) tt (λ done. done)
+          (inl (inl (post_fault old.plan (mail_world v) number keep (Some letter) true (there (mail_world v) st.mail) (ap (nat_le letters_end) (sym st.mail.sent) ∙ late))), refl);
       cause = λ w st. tt;
     }
 
-    -- a letter that leaves leaves less to be done
-    lighter_left : (k : Bool) (what : Said) (new : Nodes D) (flying' : InFlight) (book' : Book) → flying' ≡ taken_out (out_of number k) flying
-        → IsLighter (Ok what) (step.Post number k) before (state_with new flying' seconds book')
-    lighter_left true what new flying' book' e = tt
-    lighter_left false what new flying' book' e = subst (λ (f : InFlight). weight_of_flights f.flights < weight_of_flights flying.flights) (sym e)
-        (omega (arith, weight_taken flying.flights number letter here, some_weight letter.body))
+    -- where the lowest leaves, what is in flight then has higher numbers
+    passed_left : (k : Bool) (what : Said) (new : Nodes D) (flying' : InFlight) (book' : Book) → flying' ≡ taken_out (out_of number k) flying
+        → HasPassed (Ok what) (step.Post number k) before (state_with new flying' seconds book')
+    passed_left true what new flying' book' e = tt
+    passed_left false what new flying' book' e = λ first. left_passed number flying flying' order.order first e
 
-    -- so does one that is answered by letters that weigh less
-    lighter_sent : (k : Bool) (what : Said) (new : Nodes D) (flying' : InFlight) (book' : Book) (letters : List Letter) → weight_of_all letters < weight_of letter
-        → flying' ≡ (put_down letters (taken_out (out_of number k) flying)).flying → IsLighter (Ok what) (step.Post number k) before (state_with new flying' seconds book')
-    lighter_sent true what new flying' book' letters less e = tt
-    lighter_sent false what new flying' book' letters less e = subst (λ (f : InFlight). weight_of_flights f.flights < weight_of_flights flying.flights) (sym e)
-        (omega (arith, weight_taken flying.flights number letter here, less, weight_put letters (record { flying = taken_out (Some number) flying; left = [] })))
+    -- so where it is answered
+    passed_sent : (k : Bool) (what : Said) (new : Nodes D) (flying' : InFlight) (book' : Book) (letters : List Letter)
+        → flying' ≡ (put_down letters (taken_out (out_of number k) flying)).flying → HasPassed (Ok what) (step.Post number k) before (state_with new flying' seconds book')
+    passed_sent true what new flying' book' letters e = tt
+    passed_sent false what new flying' book' letters e = λ first. sent_passed number letters flying flying' order.order first e
+
+    -- it is none of calls that read
+    for_mail : (v : joint_world.World) → StandsForAll on before v → (flies : Flies (mail_world v) number) → is_read_body flies.letter.body ≡ false
+    for_mail v st flies = ap (λ (l : Letter). is_read_body l.body) (one_letter flying number letter order.order here (mail_world v) st.mail.flying flies) ∙ order.mail
+
+    posted_mail : (w : machine.World) → StateStandsFor on before w → {said : steps.Said} {next : machine.World} (posts : Posts old.plan w number keep said next) → is_read_body (posted_letter posts).body ≡ false
+    posted_mail w st posts =
+        let (flies, same) = flown posts in
+        ap (λ (l : Letter). is_read_body l.body) (same ∙ one_letter flying number letter order.order here w st.flying flies) ∙ order.mail
 
     module _ (early : nat_le letters_end flying.sent ≡ false) where
       goes : (w : machine.World) → StateStandsFor on before w → step_fault old.plan (steps.Step.Post number keep) w ≡ None
@@ -269,21 +295,21 @@ module _ {D : Type 0} (on : View D) (old : Nodes D) (flying : InFlight) (seconds
       up_seen : (w : machine.World) → StateStandsFor on before w → (v : whole_world.World) → mail_world_of v ≡ w → (flies : Flies (mail_world_of v) number) (node : whole.Node) (disk : List Record)
           → whole_world.IsUp v flies.letter.to node disk → IsUp w letter.to node.mail disk
       up_seen w st v seen flies node disk up =
-          let same : flies.letter ≡ letter = one_letter flying number letter order here (mail_world_of v) (st.flying ∙ ap (λ (x : machine.World). x.flying) (sym seen)) flies in
+          let same : flies.letter ≡ letter = one_letter flying number letter order.order here (mail_world_of v) (st.flying ∙ ap (λ (x : machine.World). x.flying) (sym seen)) flies in
           ap (λ (x : machine.World). slot_at x.slots letter.to) (sym seen)
           ∙ mail_here v.slots letter.to (whole_world.slot_up node disk) (subst (λ (l : Letter). whole_world.IsUp v l.to node disk) same up)
 
       -- so it speaks of messages, where it does
       pub mail_seen : (w : machine.World) → StateStandsFor on before w → IsMailBody letter.body → (v : whole_world.World) → mail_world_of v ≡ w → IsForMessages v (steps.Step.Post number keep)
       mail_seen w st mail v seen flies node disk up fresh =
-          let same : flies.letter ≡ letter = one_letter flying number letter order here (mail_world_of v) (st.flying ∙ ap (λ (x : machine.World). x.flying) (sym seen)) flies in
+          let same : flies.letter ≡ letter = one_letter flying number letter order.order here (mail_world_of v) (st.flying ∙ ap (λ (x : machine.World). x.flying) (sym seen)) flies in
           subst (λ (l : Letter). IsMailBody l.body) (sym same) mail
 
       -- and it does not matter, where it is stale
       stale_seen : (w : machine.World) → StateStandsFor on before w → (here_up : (node : plain.Node) (disk : List Record) → IsUp w letter.to node disk → is_stale letter node.installed ≡ true)
           → (v : whole_world.World) → mail_world_of v ≡ w → IsForMessages v (steps.Step.Post number keep)
       stale_seen w st stale v seen flies node disk up fresh =
-          let same : flies.letter ≡ letter = one_letter flying number letter order here (mail_world_of v) (st.flying ∙ ap (λ (x : machine.World). x.flying) (sym seen)) flies in
+          let same : flies.letter ≡ letter = one_letter flying number letter order.order here (mail_world_of v) (st.flying ∙ ap (λ (x : machine.World). x.flying) (sym seen)) flies in
           let is : is_stale flies.letter node.mail.installed ≡ true = ap (λ (l : Letter). is_stale l node.mail.installed) same ∙ stale node.mail disk (up_seen w st v seen flies node disk up) in
           absurd (let never : true ≡ false = sym is ∙ fresh in cc)
 
@@ -294,7 +320,7 @@ module _ {D : Type 0} (on : View D) (old : Nodes D) (flying : InFlight) (seconds
         plan = noted.only.plan;
         handed = ap length noted.only.disks;
         clock = refl;
-        lighter = lighter_left keep (said.Thrown why.Down) new flying' book left;
+        passed = passed_left keep (said.Thrown why.Down) new flying' book left;
         books = same_book (booked_by book);
         kept = tt;
         refused = refl;
@@ -303,9 +329,11 @@ module _ {D : Type 0} (on : View D) (old : Nodes D) (flying : InFlight) (seconds
         lives = noted.only.lives;
         told = only_told on (λ slots. missed mishap.Down slots letter) old new noted.only flying flying' seconds seconds book book on.seen;
         quiet = only_quiet on (λ slots. missed mishap.Down slots letter) old new noted.only flying flying' seconds seconds book book on.faults;
-        leads = λ known ended w st.
+        leads = λ known ended. lift on _ _ _ _ (even_of old) (even_of new) tt (λ v s done. for_mail v s) (tickets_keep on (λ slots. missed mishap.Down slots letter) old new noted.only) (λ w st.
             let s = standing w.flying number letter (there w st) in
-            led on (Ok (said.Thrown why.Down)) (step.Post number keep) before (state_with new flying' seconds book) (even_of old) (even_of new) w st (record { step_is = refl; said_is = refl; sees = λ unseen. unseen })
+            let posts : Posts old.plan w number keep (steps.Said.Thrown thrown.Why.WhileDown) (lost_letter mishap.Down w number (flies_of w number letter s) keep) =
+            Posts.NobodyUp (flies_of w number letter s) (nobody_there letter.to down w st) refl refl in
+            led on (Ok (said.Thrown why.Down)) (step.Post number keep) before (state_with new flying' seconds book) (even_of old) (even_of new) w st (record { step_is = refl; said_is = refl; sees = tt })
             (λ v seen sound done flies node disk up fresh. absurd (nobody_there letter.to down w st node.mail disk (up_seen w st v seen flies node disk up))) (record {
               next = lost_letter mishap.Down w number (flies_of w number letter s) keep;
               stands = record {
@@ -315,16 +343,16 @@ module _ {D : Type 0} (on : View D) (old : Nodes D) (flying : InFlight) (seconds
                 seconds = st.seconds;
                 book = st.book;
               };
-              made = (goes w st, Posts.NobodyUp (flies_of w number letter s) (nobody_there letter.to down w st) refl refl);
+              made = (goes w st, inl (posts, posted_mail w st posts));
               stops = stops_on on before before (state_with new flying' seconds book) w.slots w.slots (missed mishap.Down w.slots letter) noted.only.disks
                   (λ n. missed_kept mishap.Down w.slots n letter) (same_stops on before w st);
               follow = tickets_follow on (λ slots. missed mishap.Down slots letter) old new noted.only w.slots (missed mishap.Down w.slots letter) (λ n. missed_disk mishap.Down w.slots n letter);
-            });
+            }));
         cause = λ w st. tt;
       }
 
       -- Its receiver is up, and was handed it.
-      module _ (P : Life → D → Life → D → Type 0) (mid : Nodes D) (ch : ChangesNode letter.to P old mid) (a : WholeNode) (was : ch.life ≡ Up a) where
+      module _ (P : Life → D → Life → D → Type 0) (mid : Nodes D) (ch : ChangesNode letter.to P old mid) (a : WholeNode) (was : ch.life ≡ Up a) (own : OwnKept ch.life ch.life') where
         abbrev rule : Rule
         rule = λ node disk. hear letter.to old.plan.nodes node disk letter
 
@@ -345,20 +373,21 @@ module _ {D : Type 0} (on : View D) (old : Nodes D) (flying : InFlight) (seconds
               (ap (λ d. is_some (on.seen d)) untold)
               (subst (λ d. on.faults ch.disk ≤ on.faults d) (sym untold) (omega arith))
               (λ boot _. ap on.faults untold)
-              (lighter_left keep (said.Thrown what) new flying' book left)
+              (passed_left keep (said.Thrown what) new flying' book left)
               (same_book (booked_by book))
               tt
+              tt (λ v s done. for_mail v s) own
               (λ w st.
               let s = standing w.flying number letter (there w st) in
               let flies : Flies w number = flies_of w number letter s in
               let (slot, slot_here, stood) = up_slot on letter.to P old mid new ch rule a was flying flying' seconds book book w st in
               let up : IsUp w letter.to (node_seen a.mail) slot.disk = slot_here ∙ ap Some (up_is on letter.to P old mid new ch rule a was flying flying' seconds book book slot stood) in
-              led on (Ok (said.Thrown what)) (step.Post number keep) before (state_with new flying' seconds book) (even_of old) (even_of new) w st (record { step_is = refl; said_is = refl; sees = λ unseen. unseen })
+              led on (Ok (said.Thrown what)) (step.Post number keep) before (state_with new flying' seconds book) (even_of old) (even_of new) w st (record { step_is = refl; said_is = refl; sees = tt })
               (λ v seen sound done. for w st v seen) (record {
                 next = record w { slots = change w.slots; flying = flies_on w number flies keep };
                 stands = idle_stands on letter.to P old mid new ch rule a was flying flying' seconds book book b is alike untold change only w st (flies_on w number flies keep)
                     (left_is w st s flying' left) (ap (λ (f : InFlight). f.sent) left) refl;
-                made = (goes w st, posts w flies (node_seen a.mail) slot.disk refl up by);
+                made = (goes w st, inl (posts w flies (node_seen a.mail) slot.disk refl up by, posted_mail w st (posts w flies (node_seen a.mail) slot.disk refl up by)));
                 stops = idle_stops on letter.to P old mid new ch rule a was flying flying' seconds book book b is alike untold change only w st (change w.slots) (kept w);
                 follow = idle_maps on letter.to P old mid new ch rule a was flying flying' seconds book book b is alike untold change only same_maps w st (change w.slots) (disks w);
               }))
@@ -418,9 +447,10 @@ module _ {D : Type 0} (on : View D) (old : Nodes D) (flying : InFlight) (seconds
             (λ boot _. ap on.faults untold)
             tt
             (same_book (booked_by book))
-            (unchanged_by letter.to P old mid ch flying flying seconds seconds book book on (step.Post number keep) (node_kept ch.life ch.life' a b was is alike)
+            (unchanged_by letter.to P old mid ch flying flying seconds seconds book book on (step.Post number keep) (memory_kept ch.life ch.life' a b was is alike same_maps (turns_same ch.life ch.life' own a b was is same_maps))
             (λ _. untold) (λ _. (nothing_read on ch.disk ch.disk' untold, ap on.faults untold)) refl refl refl)
-            (λ w st. led on (Err (fault.NoMemory None)) (step.Post number keep) before (state_with mid flying seconds book) (even_of old) (even_of mid) w st (record { step_is = refl; said_is = refl; sees = λ unseen. unseen })
+            tt (λ v s done. for_mail v s) own
+            (λ w st. led on (Err (fault.NoMemory None)) (step.Post number keep) before (state_with mid flying seconds book) (even_of old) (even_of mid) w st (record { step_is = refl; said_is = refl; sees = tt })
             (λ v seen sound done. absurd done) (record {
               next = w;
               stands = idle_stands on letter.to P old mid mid ch rule a was flying flying seconds book book b is alike untold (λ slots. slots) (nothing_else on mid) w st w.flying st.flying refl refl;
@@ -444,27 +474,28 @@ module _ {D : Type 0} (on : View D) (old : Nodes D) (flying : InFlight) (seconds
           pub mail_answers : (o : Option Why) → IsOfMail (Ok (said_by o)) (step.Post number keep) → (b : WholeNode) → ch.life' ≡ Up b → (letters : List Letter) (new : Nodes D) (flying' : InFlight)
               → SentOff on old.plan letters (out_of number keep) flying flying' mid new → PostsBy old.plan number keep letter did_rule a o
               → IsMailBody letter.body → node_follows.MapsFollow did_rule a b → own_of a.maps ≡ letter.to → Answers o letters new flying'
-          mail_answers o of_mail b is letters new flying' off posts mail follow own w st s sent v seen sound maps =
+          mail_answers o of_mail b is letters new flying' off posts mail follow mine w st s sent v seen sound maps =
               led_whole on (Ok (said_by o)) (step.Post number keep) before (state_with new flying' seconds book) (even_of old) (even_of new) w st (record {
                 next = after (record w { flying = flies_on w number (flies_of w number letter s) keep }) letter.to (did_rule sent.node sent.disk);
                 stands = sent.stands;
-                made = (goes w st, posts w s sent.node sent.disk sent.up sent.node_is);
+                made = (goes w st, inl (posts w s sent.node sent.disk sent.up sent.node_is, posted_mail w st (posts w s sent.node sent.disk sent.up sent.node_is)));
                 stops = sent.stops;
-                follow = sent_follows on letter.to P old mid new ch did_rule a was flying flying' seconds book book letters (flies_on w number (flies_of w number letter s) keep) w.book w sent b is follow own _ off.noticed.only;
+                follow = sent_follows on letter.to P old mid new ch did_rule a was flying flying' seconds book book letters (flies_on w number (flies_of w number letter s) keep) w.book w sent b is follow mine _ off.noticed.only;
               }) v seen maps of_mail (λ done. mail_seen w st mail v seen)
 
-          pub answered_posted : (o : Option Why) (b : WholeNode) → ch.life' ≡ Up b → (letters : List Letter) → weight_of_all letters < weight_of letter → NodeDid on did_rule a.mail ch.disk b.mail ch.disk' letters
+          pub answered_posted : (o : Option Why) (b : WholeNode) → ch.life' ≡ Up b → (letters : List Letter) → NodeDid on did_rule a.mail ch.disk b.mail ch.disk' letters
               → (new : Nodes D) (flying' : InFlight) → SentOff on old.plan letters (out_of number keep) flying flying' mid new
               → PostsBy old.plan number keep letter did_rule a o → Answers o letters new flying' → StepDid on (Ok (said_by o)) (step.Post number keep) before (state_with new flying' seconds book)
-          answered_posted o b is letters less did new flying' off posts whole = work_did on letter.to P old mid new ch _ off.noticed.only flying flying' seconds book book (Ok (said_by o)) (step.Post number keep) refl refl
+          answered_posted o b is letters did new flying' off posts whole = work_did on letter.to P old mid new ch _ off.noticed.only flying flying' seconds book book (Ok (said_by o)) (step.Post number keep) refl refl
               (says_so o number keep) (falls_none o old.plan.nodes number keep (life_among old))
               (λ m. work_goes_on on letter.to P old mid new ch _ off.noticed.only (up_boot b is did.boot) m ∙ sym (lives_stay o number keep m (life_among old m)))
               did.appends.told
               (subst (λ f. on.faults ch.disk ≤ f) (sym did.appends.quiet) (omega arith))
               (λ boot _. did.appends.quiet)
-              (lighter_sent keep (said_by o) new flying' book letters less off.flies)
+              (passed_sent keep (said_by o) new flying' book letters off.flies)
               (same_book (booked_by book))
               tt
+              tt (λ v s done. for_mail v s) own
               (λ w st.
               let s = standing w.flying number letter (there w st) in
               let sent : WorkSent on letter.to P old mid new ch did_rule a was flying flying' seconds book book letters (flies_on w number (flies_of w number letter s) keep) w.book w =
@@ -473,7 +504,7 @@ module _ {D : Type 0} (on : View D) (old : Nodes D) (flying : InFlight) (seconds
               record {
                 next = after (record w { flying = flies_on w number (flies_of w number letter s) keep }) letter.to (did_rule sent.node sent.disk);
                 stands = sent.stands;
-                made = (goes w st, posts w s sent.node sent.disk sent.up sent.node_is);
+                made = (goes w st, inl (posts w s sent.node sent.disk sent.up sent.node_is, posted_mail w st (posts w s sent.node sent.disk sent.up sent.node_is)));
                 stops = sent.stops;
                 whole = whole w st s sent;
               })
@@ -520,10 +551,10 @@ module _ {D : Type 0} (on : View D) (old : Nodes D) (flying : InFlight) (seconds
                   next = record fell { slots = change fell.slots; flying = flies_on w number (flies_of w number letter s) keep };
                   stands = cut_stands on letter.to P old mid new ch did_rule a was flying flying' seconds book book' down change only w st c
                       (flies_on w number (flies_of w number letter s) keep) (left_is w st s flying' left) (ap (λ (f : InFlight). f.sent) left) w.book (booked_is w st);
-                  made = (goes w st, posts w s c.node c.disk c.up c.node_is fell (record { front = c.front; pending = c.pending; one = c.one; cut = c.cut; is = refl }));
+                  made = (goes w st, inl (posts w s c.node c.disk c.up c.node_is fell (record { front = c.front; pending = c.pending; one = c.one; cut = c.cut; is = refl }), posted_mail w st (posts w s c.node c.disk c.up c.node_is fell (record { front = c.front; pending = c.pending; one = c.one; cut = c.cut; is = refl }))));
                   stops = cut_stops on letter.to P old mid new ch did_rule a was flying flying' seconds book book' down change only w st c (change fell.slots) (kept fell.slots);
                   follow = cut_follows on letter.to P old mid new ch did_rule a was flying flying' seconds book book' down change only w c (change fell.slots) (disks fell.slots);
-                }) v seen maps (record { step_is = refl; said_is = refl; sees = λ unseen. unseen }) (λ done. mail_seen w st mail v seen)
+                }) v seen maps (record { step_is = refl; said_is = refl; sees = tt }) (λ done. mail_seen w st mail v seen)
 
             pub mail_falls : (only : OnlyTickets on (λ slots. slots) mid new) → flying' ≡ flying → RunsBy old.plan number keep letter did_rule a → IsMailBody letter.body → Falls
             mail_falls only left runs mail w st v seen sound maps =
@@ -537,7 +568,7 @@ module _ {D : Type 0} (on : View D) (old : Nodes D) (flying : InFlight) (seconds
                   made = runs w s c.node c.disk c.up c.node_is fell (record { front = c.front; pending = c.pending; one = c.one; cut = c.cut; is = refl });
                   stops = cut_stops on letter.to P old mid new ch did_rule a was flying flying' seconds book book' down (λ slots. slots) only w st c fell.slots (λ n. refl);
                   follow = cut_follows on letter.to P old mid new ch did_rule a was flying flying' seconds book book' down (λ slots. slots) only w c fell.slots (λ n. refl);
-                }) v seen maps (record { step_is = refl; said_is = refl; sees = λ unseen. unseen }) (λ done. mail_seen w st mail v seen)
+                }) v seen maps (record { step_is = refl; said_is = refl; sees = tt }) (λ done. mail_seen w st mail v seen)
 
             pub faulted_posted : Rose (on.faults ch.disk) (on.faults ch.disk') → (change : List Slot → List Slot) (only : OnlyTickets on change mid new)
                 → ((slots : List Slot) (n : ℕ) → Rattle.cluster_world.proofs.Kept.kept_at (slot_at (change slots) n) ≡ Rattle.cluster_world.proofs.Kept.kept_at (slot_at slots n))
@@ -545,9 +576,10 @@ module _ {D : Type 0} (on : View D) (old : Nodes D) (flying : InFlight) (seconds
                 → FailsBy old.plan number keep letter did_rule a change → Faults change → StepDid on (Ok (said.Faulted letter.to)) (step.Post number keep) before (state_with new flying' seconds book')
             faulted_posted rose change only kept left posts whole = work_did on letter.to P old mid new ch change only flying flying' seconds book book' (Ok (said.Faulted letter.to)) (step.Post number keep) refl
                 refl tt was_to_work (lives_down change only) told later (λ boot up. absurd (not_up boot up))
-                (lighter_left keep (said.Faulted letter.to) new flying' book' left)
+                (passed_left keep (said.Faulted letter.to) new flying' book' left)
                 (longer_by book book' (written.Down letter.to ∷ []) entered.wrote)
                 tt
+                tt (λ v s done. for_mail v s) own
                 (λ w st.
                 let s = standing w.flying number letter (there w st) in
                 let c = cut w st in
@@ -556,7 +588,7 @@ module _ {D : Type 0} (on : View D) (old : Nodes D) (flying : InFlight) (seconds
                   next = record fell { slots = change fell.slots; flying = flies_on w number (flies_of w number letter s) keep };
                   stands = cut_stands on letter.to P old mid new ch did_rule a was flying flying' seconds book book' down change only w st c
                       (flies_on w number (flies_of w number letter s) keep) (left_is w st s flying' left) (ap (λ (f : InFlight). f.sent) left) w.book (booked_is w st);
-                  made = (goes w st, posts w s c.node c.disk c.up c.node_is fell (record { front = c.front; pending = c.pending; one = c.one; cut = c.cut; is = refl }));
+                  made = (goes w st, inl (posts w s c.node c.disk c.up c.node_is fell (record { front = c.front; pending = c.pending; one = c.one; cut = c.cut; is = refl }), posted_mail w st (posts w s c.node c.disk c.up c.node_is fell (record { front = c.front; pending = c.pending; one = c.one; cut = c.cut; is = refl }))));
                   stops = cut_stops on letter.to P old mid new ch did_rule a was flying flying' seconds book book' down change only w st c (change fell.slots) (kept fell.slots);
                   whole = whole w st s;
                 })
@@ -574,6 +606,7 @@ module _ {D : Type 0} (on : View D) (old : Nodes D) (flying : InFlight) (seconds
                 let only : OnlyTickets on (λ slots. slots) mid new = subst (λ (m : Nodes D). OnlyTickets on (λ slots. slots) mid m) (sym same_nodes) (nothing_else on mid) in
                 work_did on letter.to P old mid new ch (λ slots. slots) only flying flying' seconds book book' (Err (fault.NoMemory (Some letter.to))) (step.Post number keep) refl
                 tt tt was_to_work (lives_down (λ slots. slots) only) told later (λ boot up. absurd (not_up boot up)) tt (longer_by book book' (written.Down letter.to ∷ []) entered.wrote) tt
+                tt (λ v s done. for_mail v s) own
                 (λ w st.
                 let s = standing w.flying number letter (there w st) in
                 let c = cut w st in
@@ -589,7 +622,7 @@ module _ {D : Type 0} (on : View D) (old : Nodes D) (flying : InFlight) (seconds
                 tt
 
         -- A letter of membership or maps was looked at: the whole machine has its rule, too.
-        module _ (body : IsMapsBody letter.body) (own : a.mail.store.own ≡ letter.to) where
+        module _ (body : IsMapsBody letter.body) (mine : a.mail.store.own ≡ letter.to) where
           abbrev pub looks : WholeNode → List Letter → Rule
           looks b letters = forms_rule (with_stamps letter.body) (node_of b.maps).installed (promise_by (node_of a.maps) letter.body) letters
 
@@ -612,7 +645,7 @@ module _ {D : Type 0} (on : View D) (old : Nodes D) (flying : InFlight) (seconds
           pub looked_answers : (o : Option Why) (b : WholeNode) → ch.life' ≡ Up b → (letters : List Letter) → LookedAt on letter a ch.disk b ch.disk' o letters → (new : Nodes D) (flying' : InFlight)
               → SentOff on old.plan letters (out_of number keep) flying flying' mid new → Answers (looks b letters) o letters new flying'
           looked_answers o b is letters h new flying' off w st s sent v seen sound maps =
-              looked_whole on letter.to P old mid new ch _ off.noticed.only a b own is (tells_in on.seen before) w v seen sound maps sent.node sent.disk
+              looked_whole on letter.to P old mid new ch _ off.noticed.only a b mine is (tells_in on.seen before) w v seen sound maps sent.node sent.disk
               (up_whole old.lives.items w v seen maps letter.to a sent.node sent.disk (ch.was ∙ ap Some was) sent.up sent.node_is) sent.keeps ch.disk ch.disk' letter refl body o letters h number keep
               (flies_there w s v seen) refl (flies_on w number (flies_of w number letter s) keep) (left_there keep w s v seen) (goes_there w st v seen) (said_by o) (told_so o)
               (looks b letters sent.node sent.disk)

@@ -94,7 +94,7 @@ module _ (plan : Plan) (w : machine.World) (n to : ℕ) (node : plain.Node) (dis
   Rooms b = if b then Some steps.StepFault.NoRoom else None
 
   fault_is : (b c : Bool) → nat_le letters_end w.sent ≡ b → is_crowded_slot w.flying n to (slot_up node disk) (plain.Life.Up node) ≡ c
-      → step_fault plan (steps.Step.PushTo n to) w ≡ first_fault (None ∷ None ∷ None ∷ None ∷ Worns b ∷ Rooms c ∷ [])
+      → step_fault plan (steps.Step.PushTo n to) w ≡ first_fault (None ∷ None ∷ None ∷ Worns b ∷ Rooms c ∷ [])
   fault_is b c e f = firsts _ _ _ _
       (ap (λ x. if x then None else Some steps.StepFault.NoSuchNode) named)
       (ap (slot_fault (steps.Step.PushTo n to)) here)
@@ -102,11 +102,11 @@ module _ (plan : Plan) (w : machine.World) (n to : ℕ) (node : plain.Node) (dis
       (ap Rooms (ap (is_crowded_at w.flying n to) here ∙ f))
     where
       firsts : (x y z t : Option steps.StepFault) → x ≡ None → y ≡ None → z ≡ Worns b → t ≡ Rooms c
-          → first_fault (x ∷ y ∷ None ∷ None ∷ z ∷ t ∷ []) ≡ first_fault (None ∷ None ∷ None ∷ None ∷ Worns b ∷ Rooms c ∷ [])
+          → first_fault (x ∷ y ∷ None ∷ z ∷ t ∷ []) ≡ first_fault (None ∷ None ∷ None ∷ Worns b ∷ Rooms c ∷ [])
       firsts x y z t p q r s = rw (p, q, r, s) refl
 
-  not_worn : (c : Bool) → first_fault (None ∷ None ∷ None ∷ None ∷ Worns false ∷ Rooms c ∷ []) ≡ first_fault (None ∷ None ∷ None ∷ None ∷ None ∷ Rooms c ∷ [])
-  not_worn c = ap (λ o. first_fault (None ∷ None ∷ None ∷ None ∷ (if is_worn_at plan w.seconds (steps.Step.PushTo n to) o then Some steps.StepFault.Worn else None) ∷ Rooms c ∷ [])) here
+  not_worn : (c : Bool) → first_fault (None ∷ None ∷ None ∷ Worns false ∷ Rooms c ∷ []) ≡ first_fault (None ∷ None ∷ None ∷ None ∷ Rooms c ∷ [])
+  not_worn c = ap (λ o. first_fault (None ∷ None ∷ None ∷ (if is_worn_at plan w.seconds (steps.Step.PushTo n to) o then Some steps.StepFault.Worn else None) ∷ Rooms c ∷ [])) here
 
   pub push_goes : nat_le letters_end w.sent ≡ false → is_crowded_slot w.flying n to (slot_up node disk) (plain.Life.Up node) ≡ false → step_fault plan (steps.Step.PushTo n to) w ≡ None
   push_goes early some = fault_is false false early some ∙ not_worn false

@@ -27,7 +27,7 @@ use Rattle.node_core.specs.declared.fault.NodeFault.{NodeFault}
 use Rattle.node_core.specs.declared.fault.NodeFault.TheVariants.{Disk, Worn, NoMemory}
 use Rattle.node_core.specs.declared.outbox.Outbox.{Outbox}
 use Rattle.node_core.specs.declared.node.Node.{Node}
-use Rattle.whole_node.specs.Nodes.{WholeWorks}
+use Rattle.whole_node.specs.Nodes.{WholeWorks, joint_seen}
 use Rattle.whole_node.specs.declared.node.WholeNode.{WholeNode}
 use Rattle.whole_node.specs.Hearing.{FitsMaps}
 use Rattle.world_book.specs.Books.{entries_of}
@@ -48,7 +48,7 @@ use Rattle.cluster_world.specs.Turns.{life_refusal, node_refusal}
 use Rattle.cluster_world.specs.Unfinished.{said_of_fault}
 use Rattle.cluster_world.specs.Unfinished.{entries_of_fault}
 use Rattle.cluster_world.specs.Pushes.{letters_left_by, octets_left_by, IsCrowdedAt, PushesAt}
-use Rattle.cluster_world.specs.Steps.{StepDid, AreSettled, LeadsTo, WasToWork, StepIsKnown, EveryStopKeeps}
+use Rattle.cluster_world.specs.Steps.{StepDid, AreSettled, WasToWork, StepIsKnown, EveryStopKeeps, LeadsMail}
 use Rattle.cluster_world.specs.declared.life.Life.{Life}
 use Rattle.cluster_world.specs.declared.life.Life.TheVariants.{Up, Down}
 use Rattle.cluster_world.specs.declared.nodes.Nodes.{Nodes}
@@ -67,10 +67,15 @@ use Rattle.cluster_world.proofs.Falling.{entries_more}
 use Rattle.cluster_world.proofs.Asked.{ready_of, disk_of, slot_same}
 use Rattle.cluster_world.proofs.AfterWidening.{StaysUp, FallsDown, read_stays, stays_lives, stays_ready, stays_falls, stays_told, stays_quiet, stays_settled, down_lives, down_ready, down_falls, down_told, down_quiet, down_settled, found_up, read_there, read_down, within_first, within_second, told_there, when_told, caused, up_of}
 use Rattle.cluster_world.proofs.PushRoom.{keys_same, push_goes, push_is_crowded, push_is_worn, alone, none_long}
-use Rattle.cluster_world.proofs.Unchanged.{unchanged_by, node_kept}
+use Rattle.cluster_world.proofs.Unchanged.{unchanged_by, memory_kept}
 use Rattle.cluster_world.proofs.Follows.{all_disk, fall_follows, idle_follows, only_none}
 use Rattle.cluster_world.proofs.Wholly.{led, even_of}
 use Rattle.cluster_world.proofs.Longer.{same_book, as_long, longer_by}
+use Rattle.cluster_world.proofs.Lifting.{lift}
+use Rattle.cluster_world.proofs.Beside.{alone_keeps, one_keeps, turns_keep, turns_same}
+use Rattle.joint_world.specs.World.{mail_world_of}
+use Rattle.joint_world.specs.Staying.{KeepsReads}
+use Rattle.cluster_world.specs.Keeping.{joint_life}
 
 module _ {D : Type 0} (on : View D) (n to : ℕ) (old : Nodes D) (fit : node_refusal old.plan (life_among old) (step.Push n to) ≡ None) (ready : CanWorkOn on.seen old.plan old.lives.items old.disks.items) where
   named : list_all (is_node old.plan) (n ∷ to ∷ []) ≡ true
@@ -131,14 +136,15 @@ module _ {D : Type 0} (on : View D) (n to : ℕ) (old : Nodes D) (fit : node_ref
       told = same_told on before;
       quiet = same_quiet on before;
       clock = refl;
-      lighter = tt;
+      passed = tt;
       books = same_book (booked_by book);
       kept = same_unchanged on before (step.Push n to);
-      leads = λ known ended w st.
+      leads = λ known ended story v st sound.
+          let w = mail_world_of v in
           let (node, up) = push_up in
-          let h = here node up w.slots st.slots in
-          led_kept on before (Err fault.Worn) (step.Push n to) w st (record { step_is = refl; said_is = refl; sees = λ unseen. unseen }) (λ done. done)
-          (inl (inl (push_is_worn old.plan w n to (node_seen node.mail) h.disk named h.at _ (ap (nat_le letters_end) (sym st.sent) ∙ late) refl)), refl);
+          let h = here node up w.slots st.mail.slots in
+          led_kept on before (Err fault.Worn) (step.Push n to) v st (record { step_is = refl; said_is = refl; sees = tt }) tt (λ done. done)
+          (inl (inl (push_is_worn old.plan w n to (node_seen node.mail) h.disk named h.at _ (ap (nat_le letters_end) (sym st.mail.sent) ∙ late) refl)), refl);
       cause = λ w st. tt;
     }
 
@@ -154,15 +160,16 @@ module _ {D : Type 0} (on : View D) (n to : ℕ) (old : Nodes D) (fit : node_ref
       told = same_told on before;
       quiet = same_quiet on before;
       clock = refl;
-      lighter = tt;
+      passed = tt;
       books = same_book (booked_by book);
       kept = same_unchanged on before (step.Push n to);
-      leads = λ known ended w st.
+      leads = λ known ended story v st sound.
+          let w = mail_world_of v in
           let (node, up) = push_up in
-          let h = here node up w.slots st.slots in
-          led_kept on before (Err fault.NoRoom) (step.Push n to) w st (record { step_is = refl; said_is = refl; sees = λ unseen. unseen }) (λ done. done) (
-            inl (inl (push_is_crowded old.plan w n to (node_seen node.mail) h.disk named h.at (ap (nat_le letters_end) (sym st.sent) ∙ early)
-                (ap (λ fs. is_crowded_slot fs n to (slot_up (node_seen node.mail) h.disk) (plain.Life.Up (node_seen node.mail))) (sym st.flying) ∙ crowds node up flying.flights true life there crowded h.disk h.keeps h.own))),
+          let h = here node up w.slots st.mail.slots in
+          led_kept on before (Err fault.NoRoom) (step.Push n to) v st (record { step_is = refl; said_is = refl; sees = tt }) tt (λ done. done) (
+            inl (inl (push_is_crowded old.plan w n to (node_seen node.mail) h.disk named h.at (ap (nat_le letters_end) (sym st.mail.sent) ∙ early)
+                (ap (λ fs. is_crowded_slot fs n to (slot_up (node_seen node.mail) h.disk) (plain.Life.Up (node_seen node.mail))) (sym st.mail.flying) ∙ crowds node up flying.flights true life there crowded h.disk h.keeps h.own))),
             refl,
           );
       cause = λ w st. tt;
@@ -182,6 +189,10 @@ module _ {D : Type 0} (on : View D) (n to : ℕ) (old : Nodes D) (fit : node_ref
 
     was : ch.life ≡ Up a
     was = ch.does.0.was
+
+    own : (node : WholeNode) → ch.life' ≡ Up node → KeepsReads (joint_life ch.life) (joint_seen node)
+    own = turns_keep on.seen (λ result old before new after. PushesOut on n to (letters_left_by flying.flights) (octets_left_by flying.flights) old before new after result) (λ result old before new after. new.maps ≡ old.maps)
+        pushed ch.life ch.disk ch.life' ch.disk' ch.does.0
 
     -- what came of it
     abbrev Comes : Result Outbox NodeFault → Type 0
@@ -292,19 +303,19 @@ module _ {D : Type 0} (on : View D) (n to : ℕ) (old : Nodes D) (fit : node_ref
         told = stays_told on n P old mid ch ready a was b (stays r) flying flying seconds seconds book book';
         quiet = stays_quiet on n P old mid ch ready a was b (stays r) flying flying seconds seconds book book';
         clock = refl;
-        lighter = tt;
+        passed = tt;
         books = as_long (booked_by book) (booked_by book') (ap entries_seen wrote);
-        kept = unchanged_by n P old mid ch flying flying seconds seconds book book' on (step.Push n to) (node_kept ch.life ch.life' a b was r.is r.as_before)
+        kept = unchanged_by n P old mid ch flying flying seconds seconds book book' on (step.Push n to) (memory_kept ch.life ch.life' a b was r.is r.as_before (ap node_of ch.does.0.maps) (turns_same ch.life ch.life' own a b was r.is (ap node_of ch.does.0.maps)))
             (λ away. absurd (away refl)) (λ _. (r.read, r.quiet)) refl refl (ap entries_seen wrote);
-        leads = λ known ended w st.
+        leads = λ known ended. lift on _ _ _ _ (even_of old) (even_of mid) tt (λ v stands done. tt) (alone_keeps n P old mid ch own) (λ w st.
             let u = unmoved r w st in
-            led on (Err (fault.NoMemory None)) (step.Push n to) first between (even_of old) (even_of mid) w st (record { step_is = refl; said_is = refl; sees = λ unseen. unseen }) (λ v seen sound done. tt) (record {
+            led on (Err (fault.NoMemory None)) (step.Push n to) first between (even_of old) (even_of mid) w st (record { step_is = refl; said_is = refl; sees = tt }) (λ v seen sound done. tt) (record {
               next = w;
               stands = record { slots = u.slots; flying = st.flying; sent = st.sent; seconds = st.seconds; book = ap entries_seen wrote ∙ st.book };
               made = refl;
               stops = u.stops;
               follow = idle_follows on n P old mid mid ch (λ slots. slots) (only_none on mid) w.slots (slot_up (node_seen a.mail) u.disk) u.up w.slots (λ m. refl) a b was r.is (ap node_of ch.does.0.maps);
-            });
+            }));
         cause = λ w st. tt;
       }
 
@@ -336,13 +347,13 @@ module _ {D : Type 0} (on : View D) (n to : ℕ) (old : Nodes D) (fit : node_ref
           told = down_told on n P old mid ch ready a was (falls_so c) flying flying seconds seconds book book';
           quiet = down_quiet on n P old mid ch ready a was (falls_so c) flying flying seconds seconds book book';
           clock = refl;
-          lighter = tt;
+          passed = tt;
           books = longer_by book book' (written.Down n ∷ []) wrote;
           kept = tt;
-          leads = λ known ended w st.
+          leads = λ known ended. lift on _ _ _ _ (even_of old) (even_of mid) tt (λ v stands done. tt) (alone_keeps n P old mid ch own) (λ w st.
               let f = found_up on n P old mid ch ready a was w.slots st.slots in
               let m = read_down on n P old mid ch ready a was w.slots st.slots c.0.read f c.1 in
-              led on (Ok (said.Faulted n)) (step.Push n to) first between (even_of old) (even_of mid) w st (record { step_is = refl; said_is = refl; sees = λ unseen. unseen }) (λ v seen sound done. tt) (record {
+              led on (Ok (said.Faulted n)) (step.Push n to) first between (even_of old) (even_of mid) w st (record { step_is = refl; said_is = refl; sees = tt }) (λ v seen sound done. tt) (record {
                 next = cut_world w n f.slot.disk [] [];
                 stands = record {
                   slots = m.stand;
@@ -354,7 +365,7 @@ module _ {D : Type 0} (on : View D) (n to : ℕ) (old : Nodes D) (fit : node_ref
                 made = (goes w st f.slot.disk f.up f.keeps, Pushes.FailsPushing (node_seen a.mail) f.slot.disk f.up refl refl);
                 stops = record { each = m.stops };
                 follow = fall_follows on n P old mid ch w.slots f.slot (record { life = plain.Life.Down []; disk = f.slot.disk ++ [] }) f.here (λ y up. let never : Down ≡ Up y = sym c.1 ∙ up in cc);
-              });
+              }));
           cause = λ w st.
               let f = found_up on n P old mid ch ready a was w.slots st.slots in
               caused on n P old mid ch (step.Push n to) flying flying seconds seconds book book' (⊎_elim
@@ -407,13 +418,13 @@ module _ {D : Type 0} (on : View D) (n to : ℕ) (old : Nodes D) (fit : node_ref
               ap (λ ks. (push n to ks (node_seen a.mail) disk).out) (sym keys ∙ nothing) ∙ sym (none_long letters (c.count disk keeps ∙ ap length nothing)))
               known
 
-          sent_leads : StepIsKnown on.seen first (step.Push n to) → (w : machine.World) → StateStandsFor on first w → LeadsTo on (Ok (said.Sent (length letters))) (step.Push n to) first last w
+          sent_leads : StepIsKnown on.seen first (step.Push n to) → (w : machine.World) → StateStandsFor on first w → LeadsMail on (Ok (said.Sent (length letters))) (step.Push n to) first last w
           sent_leads known w st =
               let u = unmoved r w st in
               let out : (push n to (keys_pushed w.flying n to (node_seen a.mail) u.disk) (node_seen a.mail) u.disk).out ≡ letters = out_is w st known u.disk u.keeps u.tells in
               let flying_is : ◌≡◌ {A = InFlight} (taken_out None flying) (record { flights = w.flying; sent = w.sent }) = λ i. record { flights = st.flying i; sent = st.sent i } in
               let next : machine.World = with_put w.slots w (put_down letters (record { flights = w.flying; sent = w.sent })) in
-              led on (Ok (said.Sent (length letters))) (step.Push n to) first last (even_of old) (even_of new) w st (record { step_is = refl; said_is = refl; sees = λ unseen. unseen }) (λ v seen sound done. tt) (record {
+              led on (Ok (said.Sent (length letters))) (step.Push n to) first last (even_of old) (even_of new) w st (record { step_is = refl; said_is = refl; sees = tt }) (λ v seen sound done. tt) (record {
                 next = next;
                 stands = record {
                   slots = subst (λ fl. SlotsStand on new.lives.items new.disks.items (all_missed Crowded w.slots (put_down letters fl).left)) flying_is (off.noticed.only.slots w.slots u.slots);
@@ -453,10 +464,10 @@ module _ {D : Type 0} (on : View D) (n to : ℕ) (old : Nodes D) (fit : node_ref
                   same = λ k boot d d' y p q. quiet.same k boot d d' (sym (off.noticed.only.lives k) ∙ y) p (same_disk k d' q);
                 };
                 clock = refl;
-                lighter = tt;
+                passed = tt;
                 books = as_long (booked_by book) (booked_by book') (ap entries_seen wrote);
                 kept = tt;
-                leads = λ known ended w st. sent_leads known w st;
+                leads = λ known ended. lift on _ _ _ _ (even_of old) (even_of new) tt (λ v stands done. tt) (one_keeps n P old mid ch own on change new off.noticed.only) (sent_leads known);
                 cause = λ w st. tt;
               }
 

@@ -34,16 +34,16 @@ IsQuietStep step = ((outcome : machine.StepOutcome) → IsIdleStep (step_seen st
 pub refused_begins : (node : ℕ) (call : machine.NodeCall) (fault : machine.StepFault) → IsIdleStep (machine.Step.Begin node call) (machine.StepOutcome.Refused fault)
 refused_begins node (machine.NodeCall.Deliver mail) fault = tt
 refused_begins node (machine.NodeCall.Login user proof) fault = tt
-refused_begins node (machine.NodeCall.Fetch user id from most) fault = tt
+refused_begins node (machine.NodeCall.Fetch user id from most holders) fault = tt
 refused_begins node (machine.NodeCall.Strike user items) fault = tt
-refused_begins node (machine.NodeCall.Leave user) fault = tt
+refused_begins node (machine.NodeCall.Leave user login manager) fault = tt
 
 short_begins : (node : ℕ) (call : machine.NodeCall) → IsIdleStep (machine.Step.Begin node call) (machine.StepOutcome.NoMemory None)
 short_begins node (machine.NodeCall.Deliver mail) = tt
 short_begins node (machine.NodeCall.Login user proof) = tt
-short_begins node (machine.NodeCall.Fetch user id from most) = tt
+short_begins node (machine.NodeCall.Fetch user id from most holders) = tt
 short_begins node (machine.NodeCall.Strike user items) = tt
-short_begins node (machine.NodeCall.Leave user) = tt
+short_begins node (machine.NodeCall.Leave user login manager) = tt
 
 -- a call is refused
 pub refusal_quiet : (node : ℕ) (call : machine.NodeCall) (why : StepFault) → IsRefusal why → IsIdleStep (machine.Step.Begin node call) (outcome_seen (Err why))

@@ -10,8 +10,9 @@ use Rattle.mail_model.specs.Record.{Record}
 use Rattle.cluster_model.specs.Cluster as plain
 use Rattle.cluster_model.specs.World as machine
 use Rattle.cluster_model.specs.Steps as steps
-use Rattle.cluster_model.specs.Steps.{is_node, nodes_named, actor_of, life_fault, slot_fault, actor_fault, node_name_fault}
+use Rattle.cluster_model.specs.Steps.{is_node, nodes_named, nodes_of_call, actor_of, life_fault, slot_fault, actor_fault, node_name_fault}
 use Rattle.node_store.specs.Disks.{View}
+use Rattle.node_core.specs.Beginning.{call_seen}
 use Rattle.node_core.specs.Nodes.{node_seen}
 use Rattle.cluster_world.specs.Lives.{life_seen, of_node}
 use Rattle.cluster_world.specs.Stands.{SlotStands}
@@ -142,7 +143,7 @@ module _ {D : Type 0} (on : View D) where
       -- the node that acts is one of the plan's, where all that the step names are
       actor_there : (step : Step) → list_all (is_node plan) (nodes_named (step_seen step)) ≡ true → (n : ℕ) → actor_of (step_seen step) ≡ Some n
           → (one : Life) × (of_node state.lives n ≡ Some one)
-      actor_there (Begin node call) e n same = first_there node [] e n same
+      actor_there (Begin node call) e n same = first_there node (nodes_of_call (call_seen call)) e n same
       actor_there (Ask ticket) e n same = first_there ticket.node [] e n same
       actor_there (GiveUp ticket) e n same = first_there ticket.node [] e n same
       actor_there (Post letter keep) e n same = none_there n same

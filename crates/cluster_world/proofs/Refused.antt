@@ -3,29 +3,25 @@ use Rattle.std.proofs.Common.{◌≡◌, inl, inr, ℕ, Bool, true, false, lengt
 use Rattle.std.specs.Prelude.{⊤}
 use Rattle.std.specs.List.{list_all}
 use Rattle.session_model.specs.Events.{NodeLife, NodeLife as life}
-use Rattle.cluster_model.specs.World as machine
 use Rattle.cluster_model.specs.Steps as steps
 use Rattle.cluster_model.specs.Steps.{actor_of, is_node}
-use Rattle.cluster_model.specs.Makes.{MakesStep}
-use Rattle.whole_world.specs.Makes as whole_makes
 use Rattle.whole_world.specs.Steps as whole_steps
-use Rattle.whole_world.specs.World as whole_world
-use Rattle.whole_world.specs.World.{mail_world_of}
+use Rattle.joint_world.specs.World as joint_world
 use Rattle.node_store.specs.Disks.{View}
-use Rattle.cluster_world.specs.Seen.{step_seen, fault_seen, whole_step, whole_fault}
+use Rattle.cluster_world.specs.Maps.{StandsForAll}
+use Rattle.cluster_world.specs.Seen.{step_seen, fault_seen, whole_fault}
 use Rattle.cluster_world.specs.Turns.{life_refusal, actor_refusal, nodes_of_step, node_refusal}
-use Rattle.cluster_world.specs.Worlds.{WorldState, life_in, tells_in, StateStandsFor}
-use Rattle.cluster_world.specs.Steps.{StepDid}
+use Rattle.cluster_world.specs.Worlds.{WorldState, life_in}
+use Rattle.cluster_world.specs.Steps.{StepDid, LeadsTo}
 use Rattle.cluster_world.specs.Sure.{IsSurelyDone}
 use Rattle.cluster_world.specs.declared.step.Step.{Step}
 use Rattle.cluster_world.specs.declared.step.Step.TheVariants.{Begin, Ask, GiveUp, Post, Drop, Push, Widen, Group, Conclude, Report, Crash, Start, Lose, Tick}
 use Rattle.cluster_world.specs.declared.fault.StepFault.{StepFault}
 use Rattle.cluster_world.specs.declared.fault.StepFault.TheVariants as fault
 use Rattle.cluster_world.proofs.Clocks.{unticked}
-use Rattle.cluster_world.proofs.Same.{led_same, same_told, same_quiet, same_unchanged}
-use Rattle.cluster_world.proofs.Refusals.{named_fault, NamesSeen, names_seen}
+use Rattle.cluster_world.proofs.Same.{led_refused, same_told, same_quiet, same_unchanged}
 use Rattle.cluster_world.proofs.Longer.{same_book}
-use Rattle.cluster_world.proofs.WholeFaults.{whole_refuses}
+use Rattle.cluster_world.proofs.WholeFaults.{all_refuses}
 
 -- it is a fault for the sake of a node
 abbrev pub IsOfNode : StepFault → Type 0
@@ -85,30 +81,6 @@ same_fault : (f g : steps.StepFault) → steps.StepOutcome.Refused f ≡ steps.S
 same_fault f g e = cc
 
 module _ {D : Type 0} (on : View D) (state : WorldState D) (even : length state.disks ≡ length state.lives) (within : length state.lives ≡ state.plan.nodes) (step : Step) where
-  made_refused : (f : StepFault) (w : machine.World) → StateStandsFor on state w → node_refusal state.plan (life_in state) step ≡ Some f → MakesStep state.plan (tells_in on.seen state) w (step_seen step) (fault_seen f) w
-  made_refused f w s e = by (names_seen step)
-    where
-      -- a report is seen as a step that may always be refused
-      reported : (from : ℕ) (f : StepFault) → IsOfNode f → MakesStep state.plan (tells_in on.seen state) w (steps.Step.Form from) (fault_seen f) w
-      reported from fault.NoSuchNode of = (inr tt, refl)
-      reported from fault.NodeLost of = (inr tt, refl)
-      reported from fault.NodeDown of = (inr tt, refl)
-      reported from fault.NodeUp of = (inr tt, refl)
-      reported from fault.NoSuchLetter of = absurd of
-      reported from fault.NoSuchTicket of = absurd of
-      reported from fault.NotAGroup of = absurd of
-      reported from fault.Worn of = absurd of
-      reported from fault.NoRoom of = absurd of
-      reported from (fault.NoMemory down) of = absurd of
-
-      by : NamesSeen step → MakesStep state.plan (tells_in on.seen state) w (step_seen step) (fault_seen f) w
-      by (NamesSeen.AllNodes same) =
-          let (g, is, first) = named_fault on state.plan state w even s within step _ f same e in
-          subst (λ o. MakesStep state.plan (tells_in on.seen state) w (step_seen step) o w) (sym is) (inl (inl first), refl)
-      by (NamesSeen.OfReport from to is) =
-          subst (λ x. MakesStep state.plan (tells_in on.seen state) w (step_seen x) (fault_seen f) w) (sym is)
-          (reported from f (subst OfNode e (refusal_of_node state.plan (life_in state) step)))
-
   -- as the whole machine says it
   told_so : (f : StepFault) (g : steps.StepFault) → IsOfNode f → fault_seen f ≡ steps.StepOutcome.Refused g → whole_fault f ≡ whole_steps.StepOutcome.Refused (whole_steps.StepFault.Fault g)
   told_so fault.NoSuchNode g of e = ap (λ x. whole_steps.StepOutcome.Refused (whole_steps.StepFault.Fault x)) (same_fault steps.StepFault.NoSuchNode g e)
@@ -122,18 +94,17 @@ module _ {D : Type 0} (on : View D) (state : WorldState D) (even : length state.
   told_so fault.NoRoom g of e = absurd of
   told_so (fault.NoMemory down) g of e = absurd of
 
-  whole_refused : (f : StepFault) → IsOfNode f → (w : machine.World) → StateStandsFor on state w → (v : whole_world.World) → mail_world_of v ≡ w → node_refusal state.plan (life_in state) step ≡ Some f
-      → whole_makes.MakesStep state.plan (tells_in on.seen state) v (whole_step step) (whole_fault f) v
-  whole_refused f of w s v seen e =
-      let r = whole_refuses on state.plan state even within w s v seen step f e in
-      subst (λ o. whole_makes.MakesStep state.plan (tells_in on.seen state) v (whole_step step) o v) (sym (told_so f r.g of r.is)) (inl r.first, refl)
+  leads_same : (f : StepFault) → IsOfNode f → node_refusal state.plan (life_in state) step ≡ Some f → (v : joint_world.World) → StandsForAll on state v → LeadsTo on (Err f) step state state v
+  leads_same f of e v st =
+      let r = all_refuses on state.plan state even within v st.mail step f e in
+      led_refused on state f (whole_steps.StepFault.Fault r.g) step v st (told_so f r.g of r.is) r.first
 
   did_so : (f : StepFault) → IsOfNode f → node_refusal state.plan (life_in state) step ≡ Some f → StepDid on (Err f) step state state
   did_so fault.NoSuchNode of e = record {
     plan = refl;
     handed = refl;
     clock = unticked step fault.NoSuchNode state.seconds;
-    lighter = tt;
+    passed = tt;
     books = same_book state.book;
     kept = same_unchanged on state step;
     refused = sym e;
@@ -142,14 +113,14 @@ module _ {D : Type 0} (on : View D) (state : WorldState D) (even : length state.
     lives = λ n. refl;
     told = same_told on state;
     quiet = same_quiet on state;
-    leads = λ known ended w s. led_same on state (Err fault.NoSuchNode) step w s (made_refused fault.NoSuchNode w s e) (λ v seen sound maps. whole_refused fault.NoSuchNode tt w s v seen e);
+    leads = λ known ended story v st sound. leads_same fault.NoSuchNode tt e v st;
     cause = λ w s. tt;
   }
   did_so fault.NodeLost of e = record {
     plan = refl;
     handed = refl;
     clock = unticked step fault.NodeLost state.seconds;
-    lighter = tt;
+    passed = tt;
     books = same_book state.book;
     kept = same_unchanged on state step;
     refused = sym e;
@@ -158,14 +129,14 @@ module _ {D : Type 0} (on : View D) (state : WorldState D) (even : length state.
     lives = λ n. refl;
     told = same_told on state;
     quiet = same_quiet on state;
-    leads = λ known ended w s. led_same on state (Err fault.NodeLost) step w s (made_refused fault.NodeLost w s e) (λ v seen sound maps. whole_refused fault.NodeLost tt w s v seen e);
+    leads = λ known ended story v st sound. leads_same fault.NodeLost tt e v st;
     cause = λ w s. tt;
   }
   did_so fault.NodeDown of e = record {
     plan = refl;
     handed = refl;
     clock = unticked step fault.NodeDown state.seconds;
-    lighter = tt;
+    passed = tt;
     books = same_book state.book;
     kept = same_unchanged on state step;
     refused = sym e;
@@ -174,14 +145,14 @@ module _ {D : Type 0} (on : View D) (state : WorldState D) (even : length state.
     lives = λ n. refl;
     told = same_told on state;
     quiet = same_quiet on state;
-    leads = λ known ended w s. led_same on state (Err fault.NodeDown) step w s (made_refused fault.NodeDown w s e) (λ v seen sound maps. whole_refused fault.NodeDown tt w s v seen e);
+    leads = λ known ended story v st sound. leads_same fault.NodeDown tt e v st;
     cause = λ w s. tt;
   }
   did_so fault.NodeUp of e = record {
     plan = refl;
     handed = refl;
     clock = unticked step fault.NodeUp state.seconds;
-    lighter = tt;
+    passed = tt;
     books = same_book state.book;
     kept = same_unchanged on state step;
     refused = sym e;
@@ -190,7 +161,7 @@ module _ {D : Type 0} (on : View D) (state : WorldState D) (even : length state.
     lives = λ n. refl;
     told = same_told on state;
     quiet = same_quiet on state;
-    leads = λ known ended w s. led_same on state (Err fault.NodeUp) step w s (made_refused fault.NodeUp w s e) (λ v seen sound maps. whole_refused fault.NodeUp tt w s v seen e);
+    leads = λ known ended story v st sound. leads_same fault.NodeUp tt e v st;
     cause = λ w s. tt;
   }
   did_so fault.NoSuchLetter of e = absurd of

@@ -7,20 +7,17 @@ use Rattle.object_model.specs.Letters.{Number}
 use Rattle.cluster_model.specs.Cluster.{Node, Slot, slot_at}
 use Rattle.cluster_model.specs.Cluster.Life.{Up, Down}
 use Rattle.cluster_model.specs.World.{World}
-use Rattle.cluster_model.specs.Steps.{StepFault, is_node, slot_fault, life_fault, stands_at, letters_end, is_worn_at, first_fault, step_fault}
+use Rattle.cluster_model.specs.Steps.{StepFault, is_node, slot_fault, life_fault, letters_end, is_worn_at, first_fault, step_fault}
 use Rattle.cluster_model.specs.Steps.Step.{AskFor, GiveUp, Form, Crash, Start, Lose}
-use Rattle.cluster_model.specs.Steps.StepFault.{NoSuchNode, NoSuchTicket, Worn}
+use Rattle.cluster_model.specs.Steps.StepFault.{NoSuchNode, Worn}
 use Rattle.cluster_world.specs.declared.fault.StepFault as code
 use Rattle.cluster_world.specs.declared.fault.StepFault.TheVariants as fault
 
-pub none_at_all : (a b c d e f : Option StepFault) → a ≡ None → b ≡ None → c ≡ None → d ≡ None → e ≡ None → f ≡ None → first_fault (a ∷ b ∷ c ∷ d ∷ e ∷ f ∷ []) ≡ None
-none_at_all a b c d e f p q r s t u = rw (p, q, r, s, t, u) refl
+pub none_at_all : (a b c d e : Option StepFault) → a ≡ None → b ≡ None → c ≡ None → d ≡ None → e ≡ None → first_fault (a ∷ b ∷ c ∷ d ∷ e ∷ []) ≡ None
+none_at_all a b c d e p q r s t = rw (p, q, r, s, t) refl
 
-fourth_fault : (a b c d e f : Option StepFault) (x : StepFault) → a ≡ None → b ≡ None → c ≡ None → d ≡ Some x → first_fault (a ∷ b ∷ c ∷ d ∷ e ∷ f ∷ []) ≡ Some x
-fourth_fault a b c d e f x p q r s = rw (p, q, r, s) refl
-
-pub fifth_fault : (a b c d e f : Option StepFault) (x : StepFault) → a ≡ None → b ≡ None → c ≡ None → d ≡ None → e ≡ Some x → first_fault (a ∷ b ∷ c ∷ d ∷ e ∷ f ∷ []) ≡ Some x
-fifth_fault a b c d e f x p q r s t = rw (p, q, r, s, t) refl
+pub fourth_fault : (a b c d e : Option StepFault) (x : StepFault) → a ≡ None → b ≡ None → c ≡ None → d ≡ Some x → first_fault (a ∷ b ∷ c ∷ d ∷ e ∷ []) ≡ Some x
+fourth_fault a b c d e x p q r s = rw (p, q, r, s) refl
 
 -- no node is missed where no step is refused for that
 pub fit_of : (b : Bool) (o : Option code.StepFault) → (if b then o else Some fault.NoSuchNode) ≡ None → (b ≡ true) × (o ≡ None)
@@ -32,18 +29,18 @@ module _ (plan : Plan) (w : World) (n : ℕ) (slot : Slot) (named : list_all (is
   named_well = ap (λ b. if b then None else Some NoSuchNode) named
 
   pub crash_goes : (node : Node) → slot.life ≡ Up node → step_fault plan (Crash n) w ≡ None
-  crash_goes node up = none_at_all _ _ _ _ _ _
+  crash_goes node up = none_at_all _ _ _ _ _
       named_well
       (ap (slot_fault (Crash n)) here ∙ ap (life_fault (Crash n)) up)
-      refl refl
+      refl
       (ap (λ o. if is_worn_at plan w.seconds (Crash n) o then Some Worn else None) here)
       refl
 
   pub lose_goes : life_fault (Lose n) slot.life ≡ None → step_fault plan (Lose n) w ≡ None
-  lose_goes fits = none_at_all _ _ _ _ _ _
+  lose_goes fits = none_at_all _ _ _ _ _
       named_well
       (ap (slot_fault (Lose n)) here ∙ fits)
-      refl refl
+      refl
       (ap (λ o. if is_worn_at plan w.seconds (Lose n) o then Some Worn else None) here)
       refl
 
@@ -53,18 +50,18 @@ module _ (plan : Plan) (w : World) (n : ℕ) (slot : Slot) (named : list_all (is
       ∙ ap (λ o. if is_worn_at plan w.seconds (Start n) o then Some Worn else None) here
 
   pub start_goes : (pending : List Record) → slot.life ≡ Down pending → nat_le letters_end w.sent ≡ false → step_fault plan (Start n) w ≡ None
-  start_goes pending down early = none_at_all _ _ _ _ _ _
+  start_goes pending down early = none_at_all _ _ _ _ _
       named_well
       (ap (slot_fault (Start n)) here ∙ ap (life_fault (Start n)) down)
-      refl refl
+      refl
       (start_worn false early)
       refl
 
   pub start_is_worn : (pending : List Record) → slot.life ≡ Down pending → nat_le letters_end w.sent ≡ true → step_fault plan (Start n) w ≡ Some Worn
-  start_is_worn pending down late = fifth_fault _ _ _ _ _ _ Worn
+  start_is_worn pending down late = fourth_fault _ _ _ _ _ Worn
       named_well
       (ap (slot_fault (Start n)) here ∙ ap (life_fault (Start n)) down)
-      refl refl
+      refl
       (start_worn true late)
 
   form_worn : (b : Bool) → nat_le letters_end w.sent ≡ b → (if nat_le letters_end w.sent || is_worn_at plan w.seconds (Form n) (slot_at w.slots n) then Some Worn else None) ≡ (if b then Some Worn else None)
@@ -73,55 +70,39 @@ module _ (plan : Plan) (w : World) (n : ℕ) (slot : Slot) (named : list_all (is
       ∙ ap (λ o. if is_worn_at plan w.seconds (Form n) o then Some Worn else None) here
 
   pub form_goes : (node : Node) → slot.life ≡ Up node → nat_le letters_end w.sent ≡ false → step_fault plan (Form n) w ≡ None
-  form_goes node up early = none_at_all _ _ _ _ _ _
+  form_goes node up early = none_at_all _ _ _ _ _
       named_well
       (ap (slot_fault (Form n)) here ∙ ap (life_fault (Form n)) up)
-      refl refl
+      refl
       (form_worn false early)
       refl
 
+-- Messages do not see whether a ticket stands that is none of theirs, and refuse no ask for that.
 module _ (plan : Plan) (w : World) (ticket : Number) (slot : Slot) (node : Node) (named : list_all (is_node plan) (ticket.node ∷ []) ≡ true) (here : slot_at w.slots ticket.node ≡ Some slot) (up : slot.life ≡ Up node) where
-  pub ask_goes : stands_at ticket (slot_at w.slots ticket.node) ≡ true → step_fault plan (AskFor ticket) w ≡ None
-  ask_goes stands = none_at_all _ _ _ _ _ _
+  pub ask_goes : step_fault plan (AskFor ticket) w ≡ None
+  ask_goes = none_at_all _ _ _ _ _
       (named_well plan w ticket.node slot named here)
       (ap (slot_fault (AskFor ticket)) here ∙ ap (life_fault (AskFor ticket)) up)
       refl
-      (ap (λ b. if b then None else Some NoSuchTicket) stands)
       (ap (λ o. if is_worn_at plan w.seconds (AskFor ticket) o then Some Worn else None) here)
       refl
-
-  pub no_ticket_asked : stands_at ticket (slot_at w.slots ticket.node) ≡ false → step_fault plan (AskFor ticket) w ≡ Some NoSuchTicket
-  no_ticket_asked gone = fourth_fault _ _ _ _ _ _ NoSuchTicket
-      (named_well plan w ticket.node slot named here)
-      (ap (slot_fault (AskFor ticket)) here ∙ ap (life_fault (AskFor ticket)) up)
-      refl
-      (ap (λ b. if b then None else Some NoSuchTicket) gone)
 
   give_up_worn : (b : Bool) → nat_le letters_end w.sent ≡ b → (if nat_le letters_end w.sent || is_worn_at plan w.seconds (GiveUp ticket) (slot_at w.slots ticket.node) then Some Worn else None) ≡ (if b then Some Worn else None)
   give_up_worn true e = ap (λ b. if b || is_worn_at plan w.seconds (GiveUp ticket) (slot_at w.slots ticket.node) then Some Worn else None) e
   give_up_worn false e = ap (λ b. if b || is_worn_at plan w.seconds (GiveUp ticket) (slot_at w.slots ticket.node) then Some Worn else None) e
       ∙ ap (λ o. if is_worn_at plan w.seconds (GiveUp ticket) o then Some Worn else None) here
 
-  pub give_up_goes : stands_at ticket (slot_at w.slots ticket.node) ≡ true → nat_le letters_end w.sent ≡ false → step_fault plan (GiveUp ticket) w ≡ None
-  give_up_goes stands early = none_at_all _ _ _ _ _ _
+  pub give_up_goes : nat_le letters_end w.sent ≡ false → step_fault plan (GiveUp ticket) w ≡ None
+  give_up_goes early = none_at_all _ _ _ _ _
       (named_well plan w ticket.node slot named here)
       (ap (slot_fault (GiveUp ticket)) here ∙ ap (life_fault (GiveUp ticket)) up)
       refl
-      (ap (λ b. if b then None else Some NoSuchTicket) stands)
       (give_up_worn false early)
       refl
 
-  pub give_up_is_worn : stands_at ticket (slot_at w.slots ticket.node) ≡ true → nat_le letters_end w.sent ≡ true → step_fault plan (GiveUp ticket) w ≡ Some Worn
-  give_up_is_worn stands late = fifth_fault _ _ _ _ _ _ Worn
+  pub give_up_is_worn : nat_le letters_end w.sent ≡ true → step_fault plan (GiveUp ticket) w ≡ Some Worn
+  give_up_is_worn late = fourth_fault _ _ _ _ _ Worn
       (named_well plan w ticket.node slot named here)
       (ap (slot_fault (GiveUp ticket)) here ∙ ap (life_fault (GiveUp ticket)) up)
       refl
-      (ap (λ b. if b then None else Some NoSuchTicket) stands)
       (give_up_worn true late)
-
-  pub no_ticket_given_up : stands_at ticket (slot_at w.slots ticket.node) ≡ false → step_fault plan (GiveUp ticket) w ≡ Some NoSuchTicket
-  no_ticket_given_up gone = fourth_fault _ _ _ _ _ _ NoSuchTicket
-      (named_well plan w ticket.node slot named here)
-      (ap (slot_fault (GiveUp ticket)) here ∙ ap (life_fault (GiveUp ticket)) up)
-      refl
-      (ap (λ b. if b then None else Some NoSuchTicket) gone)

@@ -72,6 +72,8 @@ use Rattle.cluster_world.proofs.WholeFaults.{report_fits}
 use Rattle.cluster_world.proofs.WholeForms.{up_whole, end, end_seen, end_maps}
 use Rattle.cluster_world.proofs.WholeGroups.{RefusesTo, stood, late_is}
 use Rattle.cluster_world.proofs.Wholly.{even_of}
+use Rattle.cluster_world.proofs.Beside.{OwnKept, kept_same}
+use Rattle.cluster_world.specs.Keeping.{HasSameReads}
 
 with_same : {X : Type 0} (xs : List X) (n : ℕ) (x : X) → of_node xs n ≡ Some x → with_node_at xs n x ≡ xs
 with_same xs zero x e = absurd (let never : None ≡ Some x = e in cc)
@@ -102,7 +104,9 @@ module _ {D : Type 0} (on : View D) where
     seen = refl;
     named = λ plan lives fit. first_named plan (is_node plan from) (is_node plan to) (life_refusal (step.Report from to) (lives from)) fit;
     clock = λ result was. refl;
-    lighter = λ it old new. tt;
+    passed = λ it old new. tt;
+    asks = tt;
+    for = λ v. tt;
   }
     where
       first_named : (plan : Plan) (b c : Bool) (o : Option StepFault) → (if b && (c && true) then o else Some fault.NoSuchNode) ≡ None → (b && true) ≡ true
@@ -174,11 +178,11 @@ module _ {D : Type 0} (on : View D) where
           let up = node_there life there lacks.node lacks.up in
           let s = stood on from old flying seconds book w st v seen maps lacks.node up in
           let due : HasDue from to (node_of lacks.node.maps) = subst (λ k. HasDue k to (node_of lacks.node.maps)) (works_of lacks.node up).own lacks.is.0 in (
-            inr (inr (
+            inr (inr (inl (
               fault_is w st v seen false early,
               refl,
               record { node = whole_seen lacks.node; disk = s.disk; up = s.there; due = due; full = room_is w st v seen ∙ sym room_made ∙ lacks.is.1 },
-            )),
+            ))),
             refl,
           ))
 
@@ -240,6 +244,12 @@ module _ {D : Type 0} (on : View D) where
           did = (installed_forms on (node_seen a.mail).installed a.mail wk.disk a.mail letters wk.works.mail kept r.reports.taken r.reports.plain).did;
           plain = r.reports.plain;
         }
+
+        own_kept : OwnKept ch.life ch.life'
+        own_kept b is = kept_same a b (subst (HasSameReads a) (the_same b is) (record { reads = refl; locks = refl })) (ap (λ (x : WholeNode). node_of x.maps) (sym (the_same b is)))
+          where
+            the_same : (b : WholeNode) → Up a ≡ Up b → a ≡ b
+            the_same b e = cc
 
         -- to itself a node sends nothing
         not_own : (one : Letter) (more : List Letter) → letters ≡ one ∷ more → to ≢ a.mail.store.own
@@ -324,7 +334,7 @@ module _ {D : Type 0} (on : View D) where
         -- its letters are in flight
         module _ (new : Nodes D) (flying' : InFlight) (off : SentOff on old.plan letters None flying flying' old new) where
           sent_did : StepDid on (Ok (said.Sent (length letters))) (step.Report from to) before (state_with new flying' seconds book)
-          sent_did = formed_did on from (step.Report from to) (report_forms from to) old fit ready Same old ch a refl flying early seconds book book (said.Sent (length letters)) (report_formed from to (length letters)) a refl letters h refl new flying' off
+          sent_did = formed_did on from (step.Report from to) (report_forms from to) old fit ready Same old ch a refl own_kept flying early seconds book book (said.Sent (length letters)) (report_formed from to (length letters)) a refl letters h refl new flying' off
               (λ w st sent v seen sound areas.
               let is_up = up_whole old.lives.items w v seen areas from a sent.node sent.disk up sent.up sent.node_is in
               reported_whole new _ off.noticed.only (tells_in on.seen before) w st v seen areas sent.disk is_up sent.keeps

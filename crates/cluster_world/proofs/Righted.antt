@@ -27,6 +27,7 @@ use Rattle.node_core.specs.Nodes.{node_seen}
 use Rattle.node_core.specs.Owing.{OwesAnother}
 use Rattle.node_maps.specs.Nodes.{node_of}
 use Rattle.whole_node.specs.declared.node.WholeNode.{WholeNode}
+use Rattle.joint_world.specs.World.{whole_world_of}
 use Rattle.cluster_world.specs.Lasting.{WasDriven}
 use Rattle.cluster_world.specs.Lives.{of_node}
 use Rattle.cluster_world.specs.Maps.{StandsForWhole}
@@ -39,7 +40,7 @@ use Rattle.cluster_world.specs.declared.life.Life.TheVariants.{Up}
 use Rattle.cluster_world.specs.declared.world.World.{World}
 use Rattle.cluster_world.proofs.AtRest.{rest_is_settled, latest_at}
 use Rattle.cluster_world.proofs.Still.{some_same}
-use Rattle.cluster_world.proofs.Wholes.{UpWhole, whole_up, world_is_whole}
+use Rattle.cluster_world.proofs.Wholes.{as_whole, UpWhole, whole_up, world_is_whole}
 
 has_manager : (g : Membership) (user : List ℕ) → 0 < length g.map → (manager : ℕ) × (maps.manager_of g user ≡ Some manager)
 has_manager g user some = let p = place_found g.map (bucket_at user (length g.map)) (mod-lt (hash_of user) some) in (p.0.manager, ap maps.manager_in p.1)
@@ -52,14 +53,14 @@ module _ {D : Type 0} (on : View D) (plan : Plan) (world : World D) (h : IsWhole
   state = state_of world
 
   abbrev v : whole_world.World
-  v = h.v
+  v = whole_world_of h.v
 
   even : length state.disks ≡ length state.lives
   even = world.nodes.disk_each ∙ sym world.nodes.all
 
   -- a node that is up, in the whole machine
   there : (n : ℕ) (node : WholeNode) → of_node state.lives n ≡ Some (Up node) → UpWhole on v n node
-  there n node up = whole_up on state v n node even h.stands up
+  there n node up = whole_up on state v n node even (as_whole on plan world h) up
 
   -- the latest epoch is known there
   pub latest_known : (g : Membership) → latest_in state.lives ≡ Some g → IsKnownEpoch v g
@@ -74,7 +75,7 @@ module _ {D : Type 0} (on : View D) (plan : Plan) (world : World D) (h : IsWhole
       let at = latest_at state.lives g latest in
       let u = there (suc at.place) at.node at.up in
       let (manager, its) = has_manager g [] (length_positive (h.charted.mapped g (latest_known g latest))) in
-      let of_it = h.sound.sound.maps.one.managers g (inl (record {
+      let of_it = h.sound.whole.sound.maps.one.managers g (inl (record {
         n = suc at.place;
         node = u.seen.maps;
         disk = maps_disk_of u.disk;
@@ -99,7 +100,7 @@ module _ {D : Type 0} (on : View D) (plan : Plan) (world : World D) (h : IsWhole
         let x = s.members member m in
         let u = there member.node x.node x.up in
         let known : IsKnownEpoch v x.own = inl (member.node, u.seen, u.disk, u.up, ap (λ (y : maps.Node). y.installed) u.maps ∙ x.installed) in
-        let same : x.own ≡ g = one_map_per_epoch plan v h.sound x.own g known (latest_known g s.latest) x.epoch in
+        let same : x.own ≡ g = one_map_per_epoch plan v h.sound.whole x.own g known (latest_known g s.latest) x.epoch in
         let here : (node_of x.node.maps).installed ≡ Some g = x.installed ∙ ap Some same in
         let live : IsLive v g member = record {
           node = u.seen;
@@ -109,7 +110,7 @@ module _ {D : Type 0} (on : View D) (plan : Plan) (world : World D) (h : IsWhole
           installed = ap (λ (y : maps.Node). y.installed) u.maps ∙ here;
         } in
         let mail_is : (node_seen x.node.mail).installed ≡ Some g =
-        ap (λ y. y.installed) (sym u.mail) ∙ h.sound.one_epoch.each member.node (whole_world.slot_up u.seen u.disk) u.up u.seen refl ∙ live.installed in
+        ap (λ y. y.installed) (sym u.mail) ∙ h.sound.whole.one_epoch.each member.node (whole_world.slot_up u.seen u.disk) u.up u.seen refl ∙ live.installed in
         record {
           node = x.node;
           up = x.up;
@@ -145,14 +146,14 @@ module _ {D : Type 0} (on : View D) (plan : Plan) (world : World D) (h : IsWhole
         let (manager, its) = has_manager g user (length_positive (h.charted.mapped g known)) in
         let at = latest_at state.lives g s.latest in
         let u = there (suc at.place) at.node at.up in
-        let of_it = h.sound.sound.maps.one.managers g (inl (record {
+        let of_it = h.sound.whole.sound.maps.one.managers g (inl (record {
           n = suc at.place;
           node = u.seen.maps;
           disk = maps_disk_of u.disk;
           here = maps_here v.slots (suc at.place) (whole_world.slot_up u.seen u.disk) u.up;
           is = ap (λ (x : maps.Node). x.installed) u.maps ∙ at.installed;
         })) user manager its in
-        let named_there : Names v g user manager = names plan v h.sound g settled_there of_it.member of_it.inside user manager its in
+        let named_there : Names v g user manager = names plan v h.sound.whole g settled_there of_it.member of_it.inside user manager its in
         let m = member_there of_it.member of_it.inside in
         let um = there of_it.member.node m.node m.up in
         let same : whole_world.slot_up named_there.node named_there.disk ≡ whole_world.slot_up um.seen um.disk =
@@ -173,12 +174,12 @@ module _ {D : Type 0} (on : View D) (plan : Plan) (world : World D) (h : IsWhole
 
     pub right_there : HasRightMaps on state
     right_there = record {
-      v = v;
+      v = h.v;
       stands = h.stands;
       membership = g;
       latest = s.latest;
       users = managed;
-      agree = λ a b ma mb slot here key state says target. agree plan v h.sound g settled_there a b ma mb slot here key state says target;
+      agree = λ a b ma mb slot here key state says target. agree plan v h.sound.whole g settled_there a b ma mb slot here key state says target;
     }
 
 module _ {D : Type 0} (on : View D) where

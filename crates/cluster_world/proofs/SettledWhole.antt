@@ -42,6 +42,7 @@ use Rattle.whole_world.proofs.Sweeping.{sweeps_send}
 use Rattle.node_store.specs.Disks.{View}
 use Rattle.node_maps.specs.Nodes.{node_of}
 use Rattle.whole_node.specs.declared.node.WholeNode.{WholeNode}
+use Rattle.joint_world.specs.World.{whole_world_of}
 use Rattle.cluster_world.specs.Flows.{IsDelivered, AllDelivered, IsLowest, PostsLowest}
 use Rattle.cluster_world.specs.Lives.{of_node}
 use Rattle.cluster_world.specs.Maps.{StandsForWhole}
@@ -65,6 +66,7 @@ use Rattle.cluster_world.specs.declared.step.Said.{Said}
 use Rattle.cluster_world.specs.declared.step.Step.{Step}
 use Rattle.cluster_world.specs.declared.step.Step.TheVariants as step
 use Rattle.cluster_world.specs.declared.world.World.{World}
+use Rattle.cluster_world.proofs.Leading.{same_whole}
 use Rattle.cluster_world.proofs.AtOpening.{UpHere, up_here, settled_here}
 use Rattle.cluster_world.proofs.Formed.{fine_of, maps_up}
 use Rattle.cluster_world.proofs.Mirrors.{IsOf}
@@ -72,56 +74,56 @@ use Rattle.cluster_world.proofs.AtRest.{rest_is_settled, PresentIn, present_word
 use Rattle.cluster_world.proofs.Righted.{latest_known, has_member}
 use Rattle.cluster_world.proofs.Settles.{delivered_goes}
 use Rattle.cluster_world.proofs.Still.{some_same}
-use Rattle.cluster_world.proofs.Wholes.{UpWhole, whole_up, StepsWhole, step_whole, is_of_next}
+use Rattle.cluster_world.proofs.Wholes.{as_whole, UpWhole, whole_up, StepsWhole, step_whole, is_of_next}
 
 module _ {D : Type 0} (on : View D) (plan : Plan) where
   -- a world of the program with its world of the whole machine
   pub record At (world : World D) (Goes : whole_world.World → Type 0) : Type 0 where
     pub of : IsOf on plan true world
     pub whole : IsWhole on plan world
-    pub goes : Goes whole.v
+    pub goes : Goes (whole_world_of whole.v)
 
   -- letters that were posted
-  flows_whole : (steps : List StepMade) (old new : World D) → IsOf on plan true old → PostsLowest on steps old new → AllDelivered steps → (state_of new).flying.flights ≡ [] → (h : IsWhole on plan old) → At new (λ v. Flows plan true h.v v)
+  flows_whole : (steps : List StepMade) (old new : World D) → IsOf on plan true old → PostsLowest on steps old new → AllDelivered steps → (state_of new).flying.flights ≡ [] → (h : IsWhole on plan old) → At new (λ v. Flows plan true (whole_world_of h.v) v)
   flows_whole [] old new of same all clear h = record {
     of = subst (IsOf on plan true) (sym same) of;
-    whole = record { v = h.v; sound = h.sound; charted = h.charted; stands = subst (λ (w : World D). StandsForWhole on (state_of w) h.v) (sym same) h.stands };
-    goes = Flowed h.v h.v (sym h.stands.mail.flying ∙ ap (λ (w : World D). (state_of w).flying.flights) (sym same) ∙ clear) refl;
+    whole = same_whole on plan old new same h;
+    goes = Flowed (whole_world_of h.v) (whole_world_of h.v) (sym h.stands.mail.flying ∙ ap (λ (w : World D). (state_of w).flying.flights) (sym same) ∙ clear) refl;
   }
   flows_whole (one ∷ more) old new of (letter, mid, low, is, did, rest) (post, goes, all) clear h = by one.result (delivered_goes one.result goes) (subst (λ (s : Step). IsStep on one.result s old mid) is did) (λ of_mid at. flows_whole more mid new of_mid rest all clear at)
     where
-      by : (r : Result Said StepFault) → has_failed r ≡ false → IsStep on r (step.Post letter false) old mid → ((of_mid : IsOf on plan true mid) (at : IsWhole on plan mid) → At new (λ v. Flows plan true at.v v)) → At new (λ v. Flows plan true h.v v)
+      by : (r : Result Said StepFault) → has_failed r ≡ false → IsStep on r (step.Post letter false) old mid → ((of_mid : IsOf on plan true mid) (at : IsWhole on plan mid) → At new (λ v. Flows plan true (whole_world_of at.v) v)) → At new (λ v. Flows plan true (whole_world_of h.v) v)
       by (Err why) went made more_whole = absurd (true≢false went)
       by (Ok what) went made more_whole =
-          let s = step_whole on plan true (Ok what) (step.Post letter false) old mid of (inr tt) tt made h.v h.sound h.charted h.stands in
-          let next = more_whole (is_of_next on plan true (Ok what) (step.Post letter false) old mid of made) (record { v = s.now; sound = s.sound; charted = s.charted; stands = s.stands }) in
+          let s = step_whole on plan true (Ok what) (step.Post letter false) old mid of (inr tt) tt made h in
+          let next = more_whole (is_of_next on plan true (Ok what) (step.Post letter false) old mid of made) s.whole in
           record {
             of = next.of;
             whole = next.whole;
-            goes = FlowsOn h.v next.whole.v low.flight (subst (Among low.flight) h.stands.mail.flying low.flies)
+            goes = FlowsOn (whole_world_of h.v) (whole_world_of next.whole.v) low.flight (subst (Among low.flight) h.stands.mail.flying low.flies)
                 (λ other m. subst (λ k. k ≤ other.number) (sym low.is) (low.least other (subst (Among other) (sym h.stands.mail.flying) m)))
-                (whole_said what) s.now
-                (subst (λ k. MakesStep plan true h.v (whole_steps.Step.OfMessages (mail_steps.Step.Post k false)) (whole_steps.StepOutcome.Says (whole_said what)) s.now) (sym low.is) s.made)
+                (whole_said what) (whole_world_of s.whole.v)
+                (subst (λ k. MakesStep plan true (whole_world_of h.v) (whole_steps.Step.OfMessages (mail_steps.Step.Post k false)) (whole_steps.StepOutcome.Says (whole_said what)) (whole_world_of s.whole.v)) (sym low.is) s.made)
                 (λ n. fine_of what n went) next.goes;
           }
 
-  flowed_whole : (old new : World D) (steps : List StepMade) → IsOf on plan true old → AllFlowed on old new steps → (h : IsWhole on plan old) → At new (λ v. Flows plan true h.v v)
+  flowed_whole : (old new : World D) (steps : List StepMade) → IsOf on plan true old → AllFlowed on old new steps → (h : IsWhole on plan old) → At new (λ v. Flows plan true (whole_world_of h.v) v)
   flowed_whole old new steps of f h = flows_whole steps old new of f.lowest f.well f.clear h
 
   -- one node told another
-  one_whole : (from to : ℕ) (old new : World D) (steps : List StepMade) → IsOf on plan true old → TellsOne on from to old new steps → (h : IsWhole on plan old) → At new (λ v. TellsMember plan true from to h.v v)
+  one_whole : (from to : ℕ) (old new : World D) (steps : List StepMade) → IsOf on plan true old → TellsOne on from to old new steps → (h : IsWhole on plan old) → At new (λ v. TellsMember plan true from to (whole_world_of h.v) v)
   one_whole from to old new steps of t h =
-      let p = step_whole on plan true (Ok t.push) (step.Push from to) old t.pushed of (inl refl) tt t.pushes h.v h.sound h.charted h.stands in
-      let a = flowed_whole t.pushed t.heard t.first (is_of_next on plan true (Ok t.push) (step.Push from to) old t.pushed of t.pushes) t.flows (record { v = p.now; sound = p.sound; charted = p.charted; stands = p.stands }) in
-      let r = step_whole on plan true (Ok t.report) (step.Report from to) t.heard t.reported a.of (inr tt) tt t.reports a.whole.v a.whole.sound a.whole.charted a.whole.stands in
-      let b = flowed_whole t.reported new t.second (is_of_next on plan true (Ok t.report) (step.Report from to) t.heard t.reported a.of t.reports) t.flows_again (record { v = r.now; sound = r.sound; charted = r.charted; stands = r.stands }) in
+      let p = step_whole on plan true (Ok t.push) (step.Push from to) old t.pushed of (inl refl) tt t.pushes h in
+      let a = flowed_whole t.pushed t.heard t.first (is_of_next on plan true (Ok t.push) (step.Push from to) old t.pushed of t.pushes) t.flows p.whole in
+      let r = step_whole on plan true (Ok t.report) (step.Report from to) t.heard t.reported a.of (inr tt) tt t.reports a.whole in
+      let b = flowed_whole t.reported new t.second (is_of_next on plan true (Ok t.report) (step.Report from to) t.heard t.reported a.of t.reports) t.flows_again r.whole in
       record {
         of = b.of;
         whole = b.whole;
         goes = record {
-          pushed = p.now;
-          between = a.whole.v;
-          reported = r.now;
+          pushed = (whole_world_of p.whole.v);
+          between = (whole_world_of a.whole.v);
+          reported = (whole_world_of r.whole.v);
           push_said = whole_said t.push;
           report_said = whole_said t.report;
           pushes = p.made;
@@ -133,16 +135,16 @@ module _ {D : Type 0} (on : View D) (plan : Plan) where
         };
       }
 
-  each_whole : (pairs : List (ℕ × ℕ)) (old new : World D) (steps : List StepMade) → IsOf on plan true old → TellsEach on pairs old new steps → (h : IsWhole on plan old) → At new (λ v. sweep.Sweeps plan true pairs h.v v)
+  each_whole : (pairs : List (ℕ × ℕ)) (old new : World D) (steps : List StepMade) → IsOf on plan true old → TellsEach on pairs old new steps → (h : IsWhole on plan old) → At new (λ v. sweep.Sweeps plan true pairs (whole_world_of h.v) v)
   each_whole [] old new steps of (none, same) h = record {
     of = subst (IsOf on plan true) (sym same) of;
-    whole = record { v = h.v; sound = h.sound; charted = h.charted; stands = subst (λ (w : World D). StandsForWhole on (state_of w) h.v) (sym same) h.stands };
+    whole = same_whole on plan old new same h;
     goes = refl;
   }
   each_whole (pair ∷ pairs) old new steps of (mid, one, more, split, t, rest) h =
       let a = one_whole pair.0 pair.1 old mid one of t h in
       let b = each_whole pairs mid new more a.of rest a.whole in
-      record { of = b.of; whole = b.whole; goes = (a.whole.v, a.goes, b.goes) }
+      record { of = b.of; whole = b.whole; goes = ((whole_world_of a.whole.v), a.goes, b.goes) }
 
   -- nothing is in flight after each
   each_clear : (pairs : List (ℕ × ℕ)) (old new : World D) (steps : List StepMade) → TellsEach on pairs old new steps → (state_of old).flying.flights ≡ [] → (state_of new).flying.flights ≡ []
@@ -154,11 +156,11 @@ module _ {D : Type 0} (on : View D) (plan : Plan) where
     pub live : (g : Membership) (member : Member) → IsLive v g member → IsLive new g member
     pub epochs : EpochsStay v new
 
-  swept_whole : (old new : World D) (steps : List StepMade) → IsOf on plan true old → (state_of old).flying.flights ≡ [] → Swept on old new steps → (h : IsWhole on plan old) → At new (λ v. Stayed h.v v) × ((state_of new).flying.flights ≡ [])
+  swept_whole : (old new : World D) (steps : List StepMade) → IsOf on plan true old → (state_of old).flying.flights ≡ [] → Swept on old new steps → (h : IsWhole on plan old) → At new (λ v. Stayed (whole_world_of h.v) v) × ((state_of new).flying.flights ≡ [])
   swept_whole old new steps of clear (NoMore _ _ same none) h = (
     record {
       of = subst (IsOf on plan true) (sym same) of;
-      whole = record { v = h.v; sound = h.sound; charted = h.charted; stands = subst (λ (w : World D). StandsForWhole on (state_of w) h.v) (sym same) h.stands };
+      whole = same_whole on plan old new same h;
       goes = record { live = λ g member l. l; epochs = λ n. refl };
     },
     ap (λ (w : World D). (state_of w).flying.flights) same ∙ clear,
@@ -167,7 +169,7 @@ module _ {D : Type 0} (on : View D) (plan : Plan) where
       let (a, none) = swept_whole old mid front of clear swept h in
       let pairs = pairs_in (state_of mid) in
       let b = each_whole pairs mid new last a.of sweeps.tells a.whole in
-      let s = sweeps_stay plan true a.whole.v b.whole.v pairs a.whole.sound (sym a.whole.stands.mail.flying ∙ none) b.goes in (
+      let s = sweeps_stay plan true (whole_world_of a.whole.v) (whole_world_of b.whole.v) pairs a.whole.sound.whole (sym a.whole.stands.mail.flying ∙ none) b.goes in (
         record {
           of = b.of;
           whole = b.whole;
@@ -228,12 +230,12 @@ module _ {D : Type 0} (on : View D) (plan : Plan) (world : World D) (h : IsWhole
   even = world.nodes.disk_each ∙ sym world.nodes.all
 
   -- members that are live here are live there
-  pub live_whole : (p : PresentIn (state_of world).lives) (member : Member) → Among member p.membership.members → IsLive h.v p.membership member
+  pub live_whole : (p : PresentIn (state_of world).lives) (member : Member) → Among member p.membership.members → IsLive (whole_world_of h.v) p.membership member
   live_whole p member m =
       let l = live_words (of_node (state_of world).lives member.node) p.membership.epoch member.boot ((present_all (state_of world).lives p.membership.epoch None p.membership.members p.present).1 member m) in
-      let u = whole_up on (state_of world) h.v member.node l.node even h.stands l.up in
-      let known : IsKnownEpoch h.v l.own = inl (member.node, u.seen, u.disk, u.up, ap (λ (x : maps.Node). x.installed) u.maps ∙ l.installed) in
-      let same = one_map_per_epoch plan h.v h.sound l.own p.membership known (latest_known on plan world h p.membership p.latest) l.epoch_is in
+      let u = whole_up on (state_of world) (whole_world_of h.v) member.node l.node even (as_whole on plan world h) l.up in
+      let known : IsKnownEpoch (whole_world_of h.v) l.own = inl (member.node, u.seen, u.disk, u.up, ap (λ (x : maps.Node). x.installed) u.maps ∙ l.installed) in
+      let same = one_map_per_epoch plan (whole_world_of h.v) h.sound.whole l.own p.membership known (latest_known on plan world h p.membership p.latest) l.epoch_is in
       record {
         node = u.seen;
         disk = u.disk;
@@ -243,9 +245,9 @@ module _ {D : Type 0} (on : View D) (plan : Plan) (world : World D) (h : IsWhole
       }
 
   -- and the other way round
-  pub live_back : (g : Membership) (member : Member) → IsLive h.v g member → (x : WholeNode) × (of_node (state_of world).lives member.node ≡ Some (Up x)) × ((node_of x.maps).boot ≡ member.boot) × ((node_of x.maps).installed ≡ Some g)
+  pub live_back : (g : Membership) (member : Member) → IsLive (whole_world_of h.v) g member → (x : WholeNode) × (of_node (state_of world).lives member.node ≡ Some (Up x)) × ((node_of x.maps).boot ≡ member.boot) × ((node_of x.maps).installed ≡ Some g)
   live_back g member l =
-      let u = up_here on plan world h.v h.sound h.stands member.node l.node l.disk l.up in
+      let u = up_here on plan world (whole_world_of h.v) h.sound.whole (as_whole on plan world h) member.node l.node l.disk l.up in
       (u.node, u.up, ap (λ (x : maps.Node). x.boot) (sym u.maps_are) ∙ l.boot, ap (λ (x : maps.Node). x.installed) (sym u.maps_are) ∙ l.installed)
 
 -- a node numbered from 1 at its place
@@ -321,11 +323,11 @@ module _ {D : Type 0} (on : View D) (plan : Plan) where
       let b = each_whole on plan pairs s.mid new s.last a.of s.sweeps.tells a.whole in
       let p = owing_present (state_of s.mid).lives s.sweeps.due in
       let live = live_whole on plan s.mid a.whole p in
-      let flying : a.whole.v.flying ≡ [] = sym a.whole.stands.mail.flying ∙ clear in
-      let sends = sweeps_send plan true a.whole.v b.whole.v pairs a.whole.sound a.whole.charted flying p.membership live (λ x y mx my apart. in_pairs s.mid a.of a.whole p x y mx my apart) b.goes in
-      let none : b.whole.v.sent ≤ a.whole.v.sent = subst (λ k. k ≤ a.whole.v.sent) b.whole.stands.mail.sent (subst (λ k. sent_in new ≤ k) a.whole.stands.mail.sent s.none) in
+      let flying : (whole_world_of a.whole.v).flying ≡ [] = sym a.whole.stands.mail.flying ∙ clear in
+      let sends = sweeps_send plan true (whole_world_of a.whole.v) (whole_world_of b.whole.v) pairs a.whole.sound.whole a.whole.charted flying p.membership live (λ x y mx my apart. in_pairs s.mid a.of a.whole p x y mx my apart) b.goes in
+      let none : (whole_world_of b.whole.v).sent ≤ (whole_world_of a.whole.v).sent = subst (λ k. k ≤ (whole_world_of a.whole.v).sent) b.whole.stands.mail.sent (subst (λ k. sent_in new ≤ k) a.whole.stands.mail.sent s.none) in
       let settled = sends.1 (omega (arith, sends.0, none)) in
-      let rest = (rest_is_settled D (state_of s.mid)).1 (settled_here on plan s.mid a.whole.v a.whole.sound a.whole.stands p.membership p.latest settled clear) in
+      let rest = (rest_is_settled D (state_of s.mid)).1 (settled_here on plan s.mid (whole_world_of a.whole.v) a.whole.sound.whole (as_whole on plan s.mid a.whole) p.membership p.latest settled clear) in
       let never : Calm ≡ Owing = sym rest.calm ∙ s.sweeps.due in cc never
     where
       in_pairs : (mid : World D) → IsOf on plan true mid → (h : IsWhole on plan mid) (p : PresentIn (state_of mid).lives) (x y : Member) → Among x p.membership.members → Among y p.membership.members → y.node ≢ x.node
@@ -333,8 +335,8 @@ module _ {D : Type 0} (on : View D) (plan : Plan) where
       in_pairs mid of h p x y mx my apart =
           let lx = live_whole on plan mid h p x mx in
           let ly = live_whole on plan mid h p y my in
-          let px = h.sound.in_plan x.node (mail_slot (slot_up lx.node lx.disk)) (mail_here h.v.slots x.node (slot_up lx.node lx.disk) lx.up) in
-          let py = h.sound.in_plan y.node (mail_slot (slot_up ly.node ly.disk)) (mail_here h.v.slots y.node (slot_up ly.node ly.disk) ly.up) in
+          let px = h.sound.whole.in_plan x.node (mail_slot (slot_up lx.node lx.disk)) (mail_here (whole_world_of h.v).slots x.node (slot_up lx.node lx.disk) lx.up) in
+          let py = h.sound.whole.in_plan y.node (mail_slot (slot_up ly.node ly.disk)) (mail_here (whole_world_of h.v).slots y.node (slot_up ly.node ly.disk) ly.up) in
           let set = set_of_members p.membership.members in
           let nodes : (plan_of mid).nodes ≡ plan.nodes = ap (λ (q : Plan). q.nodes) of.plan_is in
           subst (λ (o : Option Membership). Among {X = ℕ × ℕ} (x.node, y.node) (pairs_of (members_in o) (plan_of mid).nodes)) (sym p.latest)
@@ -374,21 +376,21 @@ module _ {D : Type 0} (on : View D) (plan : Plan) where
       let g = p.membership in
       let f = flowed_whole on plan old s.flown s.first of s.flows h in
       let (a, clear) = swept_whole on plan s.flown new s.more f.of s.flows.clear s.sweeps f.whole in
-      let most : NoLaterInstall h.v g = λ letter m later body.
-      let (flight, flies, is) = flight_of letter h.v.flying m in
+      let most : NoLaterInstall (whole_world_of h.v) g = λ letter m later body.
+      let (flight, flies, is) = flight_of letter (whole_world_of h.v).flying m in
       most_or later.epoch g.epoch (none flight (subst (Among flight) (sym h.stands.mail.flying) flies) later (ap (λ (l : Letter). l.body) is ∙ body)) in
-      let stay = flows_stay_live plan true h.v f.whole.v g h.sound most f.goes in
+      let stay = flows_stay_live plan true (whole_world_of h.v) (whole_world_of f.whole.v) g h.sound.whole most f.goes in
       let live = λ (member : Member) (m : Among member g.members). a.goes.live g member (stay.2 member (live_whole on plan old h p member m)) in
       let (first, inside) = has_member on plan old h g p.latest in
       let (x, up, boot, installed) = live_back on plan new a.whole g first (live first inside) in
       let (k, here) = place_of (state_of new).lives first.node (Up x) up in
       let latest = latest_least (state_of new).lives k x g here installed in
       let at = latest_at (state_of new).lives latest.membership latest.latest in
-      let u = whole_up on (state_of new) a.whole.v (suc at.place) at.node (even on plan new a.whole) a.whole.stands at.up in
-      let known = known_before h.v f.whole.v a.whole.v h.sound f.goes a.goes.epochs (suc at.place) u.seen u.disk latest.membership u.up (ap (λ (y : maps.Node). y.installed) u.maps ∙ at.installed) in
+      let u = whole_up on (state_of new) (whole_world_of a.whole.v) (suc at.place) at.node (even on plan new a.whole) (as_whole on plan new a.whole) at.up in
+      let known = known_before (whole_world_of h.v) (whole_world_of f.whole.v) (whole_world_of a.whole.v) h.sound.whole f.goes a.goes.epochs (suc at.place) u.seen u.disk latest.membership u.up (ap (λ (y : maps.Node). y.installed) u.maps ∙ at.installed) in
       let not_above : is_before g.epoch latest.membership.epoch ≡ false = by known in
       let epochs : latest.membership.epoch ≡ g.epoch = one_epoch latest.membership.epoch g.epoch latest.not_less not_above in
-      let same : latest.membership ≡ g = one_map_per_epoch plan h.v h.sound latest.membership g known (latest_known on plan old h g p.latest) epochs in
+      let same : latest.membership ≡ g = one_map_per_epoch plan (whole_world_of h.v) h.sound.whole latest.membership g known (latest_known on plan old h g p.latest) epochs in
       let present : absent_in (state_of new).lives g ≡ None = absent_none (state_of new).lives g.epoch None g.members (λ member m.
       let (y, is_up, boots, has_it) = live_back on plan new a.whole g member (live member m) in live_test (of_node (state_of new).lives member.node) g.epoch member.boot y g is_up boots has_it refl) in
       let never : rest_by None (all_settled (state_of new).lives g.members) ≡ Absent n =
@@ -399,14 +401,14 @@ module _ {D : Type 0} (on : View D) (plan : Plan) where
       no_absent true e = let never : Calm ≡ Absent n = e in cc never
       no_absent false e = let never : Owing ≡ Absent n = e in cc never
 
-      by : {x : Membership} → IsKnownEpoch h.v x → is_before p.membership.epoch x.epoch ≡ false
+      by : {x : Membership} → IsKnownEpoch (whole_world_of h.v) x → is_before p.membership.epoch x.epoch ≡ false
       by {x} (inl (m, node, disk, up, installed)) =
-          let u = up_here on plan old h.v h.sound h.stands m node disk up in
+          let u = up_here on plan old (whole_world_of h.v) h.sound.whole (as_whole on plan old h) m node disk up in
           let (k, here) = place_of (state_of old).lives m (Up u.node) u.up in
           let l = latest_least (state_of old).lives k u.node x here (ap (λ (y : maps.Node). y.installed) (sym u.maps_are) ∙ installed) in
           subst (λ (y : Membership). is_before y.epoch x.epoch ≡ false) (some_same l.membership p.membership (sym l.latest ∙ p.latest)) l.not_less
       by {x} (inr (letter, m, body)) =
-          let (flight, flies, is) = flight_of letter h.v.flying m in
+          let (flight, flies, is) = flight_of letter (whole_world_of h.v).flying m in
           none flight (subst (Among flight) (sym h.stands.mail.flying) flies) x (ap (λ (l : Letter). l.body) is ∙ body)
 
   -- So a settle does well.

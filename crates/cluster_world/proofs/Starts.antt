@@ -36,14 +36,14 @@ use Rattle.cluster_world.specs.Books.{entries_seen, booked_by}
 use Rattle.cluster_world.specs.Flights.{InFlight}
 use Rattle.cluster_world.specs.Lives.{life_seen, of_node, falls_left, all_falls_left, CanWorkOn}
 use Rattle.cluster_world.specs.Stands.{SlotStands}
-use Rattle.cluster_world.specs.Worlds.{WorldState, seen_life, life_among, state_with, tells_in, StateStandsFor, node_of_life}
+use Rattle.cluster_world.specs.Worlds.{WorldState, seen_life, life_among, state_with, tells_in, StateStandsFor, memory_of_life}
 use Rattle.cluster_world.specs.Changes.{ChangesNode}
 use Rattle.cluster_world.specs.Starting.{said_of_start, entries_of_start, IsUpIn, ComesToThis, HasStarted}
 use Rattle.cluster_world.specs.Seen.{outcome_seen}
 use Rattle.cluster_world.specs.Turns.{life_refusal, node_refusal, life_after_step}
 use Rattle.cluster_world.specs.Maps.{AreMaps}
 use Rattle.cluster_world.specs.Moments.{IsStopOf, StopsKeep}
-use Rattle.cluster_world.specs.Steps.{StepDid, AreSettled, LeadsTo, LeadsWhole, StepIsKnown, IsRefusedRight, SaysSo, FallsSo, WasToWork, FaultHasCause, ChangesNothing, IsUnchanged}
+use Rattle.cluster_world.specs.Steps.{StepDid, AreSettled, LeadsWhole, StepIsKnown, IsRefusedRight, SaysSo, FallsSo, WasToWork, FaultHasCause, ChangesNothing, IsUnchanged, LeadsMail, HasPassed, MayMisread}
 use Rattle.cluster_world.specs.declared.life.Life.{Life}
 use Rattle.cluster_world.specs.declared.life.Life.TheVariants.{Up, Down, Lost}
 use Rattle.cluster_world.specs.declared.nodes.Nodes.{Nodes}
@@ -63,6 +63,14 @@ use Rattle.cluster_world.proofs.Unchanged.{unchanged_by}
 use Rattle.cluster_world.proofs.Longer.{same_book, longer_by}
 use Rattle.cluster_world.proofs.Told.{IsOfMail, IsDone, kept_whole}
 use Rattle.cluster_world.proofs.WholeStarts.{fall_maps, start_comes, start_fails, start_short}
+use Rattle.cluster_world.proofs.Lifting.{lift}
+use Rattle.cluster_world.proofs.Beside.{alone_keeps}
+use Rattle.cluster_world.proofs.Wholly.{even_of}
+use Rattle.cluster_world.proofs.Turning.{up_same}
+use Rattle.joint_world.specs.Staying.{KeepsReads}
+use Rattle.joint_world.specs.World.{whole_world_of}
+use Rattle.whole_node.specs.Nodes.{joint_seen}
+use Rattle.cluster_world.specs.Keeping.{joint_life}
 
 -- a disk of those that all tell tells
 told_at : {D : Type 0} (seen : D → Option (List ℕ)) (disks : List D) (n : ℕ) (disk : D) → list_all (λ d. is_some (seen d)) disks ≡ true → of_node disks n ≡ Some disk → is_some (seen disk) ≡ true
@@ -208,7 +216,7 @@ module _ {D : Type 0} (on : View D) (is_settled : D → Type 0) (only : (disk : 
         → MakesStep old.plan (tells_in on.seen before) w (steps.Step.Start n) (outcome_seen outcome) (record w { slots = with_slot w.slots n slot'; book = w.book ++ entries })
         → ((v : whole_world.World) → mail_world_of v ≡ w → AreMaps old.lives.items v.slots
         → LeadsWhole old.plan (tells_in on.seen before) outcome (step.Start n) new.lives.items v (record w { slots = with_slot w.slots n slot'; book = w.book ++ entries }))
-        → LeadsTo on outcome (step.Start n) before behind w
+        → LeadsMail on outcome (step.Start n) before behind w
     leads_so outcome entries e w st f slot' stands kept made whole = record {
       next = record w { slots = with_slot w.slots n slot'; book = w.book ++ entries };
       stands = stands_now n P old new ch on flying seconds book book' entries e w st slot' stands;
@@ -250,7 +258,7 @@ module _ {D : Type 0} (on : View D) (is_settled : D → Type 0) (only : (disk : 
     down_did : (why : NodeFault) → ch.life' ≡ Down → IsRefusedRight (said_of_start n (Err why)) (node_refusal old.plan (life_among old) (step.Start n))
         → IfOk (said_of_start n (Err why)) (SaysSo (step.Start n)) → FallsSo (said_of_start n (Err why)) old.plan.nodes (step.Start n) (life_among old)
         → ((m : ℕ) → life_after_step (said_of_start n (Err why)) (step.Start n) m (life_among old m) ≡ turned n life.Down m (life_among old m))
-        → (StepIsKnown on.seen before (step.Start n) → (w : machine.World) → StateStandsFor on before w → LeadsTo on (said_of_start n (Err why)) (step.Start n) before behind w)
+        → (StepIsKnown on.seen before (step.Start n) → (w : machine.World) → StateStandsFor on before w → LeadsMail on (said_of_start n (Err why)) (step.Start n) before behind w)
         → ((w : machine.World) → StateStandsFor on before w → FaultHasCause on (said_of_start n (Err why)) (step.Start n) before behind)
         → ChangesNothing on (said_of_start n (Err why)) (step.Start n) before behind → StepDid on (said_of_start n (Err why)) (step.Start n) before behind
     down_did why down refused kind falls lives leads cause kept = record {
@@ -263,23 +271,24 @@ module _ {D : Type 0} (on : View D) (is_settled : D → Type 0) (only : (disk : 
       told = told_by n P old new ch flying flying seconds seconds book book' on.seen ch.does.told;
       quiet = quiet_by n P old new ch flying flying seconds seconds book book' on.faults ch.does.faults (λ boot up. absurd (let never : life.Down ≡ life.Up boot = sym (ap life_seen down) ∙ up in cc));
       clock = refl;
-      lighter = lighter_by why;
+      passed = passed_by why;
       books = longer_by book book' (entries_of_start n started) wrote;
       kept = kept;
-      leads = λ known ended w st. leads known w st;
+      leads = λ known ended. lift on _ _ _ _ (even_of old) (even_of new) tt (λ v stands done. tt)
+          (alone_keeps n P old new ch (λ b up. absurd (let never : Down ≡ Up b = sym down ∙ up in cc))) (leads known);
       cause = cause;
     }
       where
-        lighter_by : (why : NodeFault) → Rattle.cluster_world.specs.Steps.IsLighter (said_of_start n (Err why)) (step.Start n) before behind
-        lighter_by Disk = tt
-        lighter_by Worn = tt
-        lighter_by (NoMemory true) = tt
-        lighter_by (NoMemory false) = tt
+        passed_by : (why : NodeFault) → HasPassed (said_of_start n (Err why)) (step.Start n) before behind
+        passed_by Disk = tt
+        passed_by Worn = tt
+        passed_by (NoMemory true) = tt
+        passed_by (NoMemory false) = tt
 
     -- down it stays, and its disk was started again
     left_down : ch.life' ≡ Down → booked_by book' ≡ booked_by book → IsUnchanged on (step.Start n) before behind
     left_down down same = unchanged_by n P old new ch flying flying seconds seconds book book' on (step.Start n)
-        (ap (λ (l : Life). node_of_life (Some l)) down ∙ sym (ap (λ (l : Life). node_of_life (Some l)) was_down))
+        (ap (λ (l : Life). memory_of_life (Some l)) down ∙ sym (ap (λ (l : Life). memory_of_life (Some l)) was_down))
         (λ away. absurd (away refl)) (λ never. absurd (never n refl)) refl refl same
 
     -- the node was down
@@ -318,12 +327,12 @@ module _ {D : Type 0} (on : View D) (is_settled : D → Type 0) (only : (disk : 
         let f = found w stands in
         let d_is : ch.disk ≡ d = some_same ch.disk d (sym ch.held ∙ e) in
         let d'_is : ch.disk' ≡ d' = some_same ch.disk' d' (sym (Rattle.cluster_world.proofs.Turned.disk_there n P old new ch) ∙ e') in
-        subst (λ x. Rose (on.faults d) (on.faults x) ⊎ ((on.seen d ≡ None) × Rattle.cluster_world.specs.Steps.MayMisread (step.Start n))) d'_is
-        (subst (λ x. Rose (on.faults x) (on.faults ch.disk') ⊎ ((on.seen x ≡ None) × Rattle.cluster_world.specs.Steps.MayMisread (step.Start n))) d_is (caused f.slot.disk f.pending (on.seen ch.disk) refl f.holds)))
+        subst (λ x. Rose (on.faults d) (on.faults x) ⊎ ((on.seen d ≡ None) × MayMisread flying.flights (step.Start n))) d'_is
+        (subst (λ x. Rose (on.faults x) (on.faults ch.disk') ⊎ ((on.seen x ≡ None) × MayMisread flying.flights (step.Start n))) d_is (caused f.slot.disk f.pending (on.seen ch.disk) refl f.holds)))
         tt
       where
         caused : (records pending : List Record) (o : Option (List ℕ)) → on.seen ch.disk ≡ o → IfSome (on.seen ch.disk) (λ _. MayHold on ch.disk n records pending)
-            → Rose (on.faults ch.disk) (on.faults ch.disk') ⊎ ((on.seen ch.disk ≡ None) × Rattle.cluster_world.specs.Steps.MayMisread (step.Start n))
+            → Rose (on.faults ch.disk) (on.faults ch.disk') ⊎ ((on.seen ch.disk ≡ None) × MayMisread flying.flights (step.Start n))
         caused records pending None o holds = inr (o, tt)
         caused records pending (Some held) o holds = inl (where_told (on.seen ch.disk) (Rose (on.faults ch.disk) (on.faults ch.disk')) (ap (λ (x : Option (List ℕ)). is_some x) o)
             (if_both (on.seen ch.disk) _ _ _ (λ (h : MayHold on ch.disk n records pending) all. (all records pending h).1) holds st))
@@ -334,7 +343,7 @@ module _ {D : Type 0} (on : View D) (is_settled : D → Type 0) (only : (disk : 
         leads_so (Err fault.Worn) [] (booked ∙ ap (λ r. booked_by book ++ entries_seen (entries_of_start n r)) e) w stands f
         f.slot (still_down w f so.holds down) (keeps_so w f f.slot (f.slot.disk ++ f.pending) (all_there w f) so.stops_keep)
         (inl (inr (worn w stands f so)), unchanged w f)
-        (whole_stays fault.Worn (record { step_is = refl; said_is = refl; sees = λ unseen. unseen }) (λ done. done) down w f (inl (inr (worn w stands f so)), refl)))
+        (whole_stays fault.Worn (record { step_is = refl; said_is = refl; sees = tt }) (λ done. done) down w f (inl (inr (worn w stands f so)), refl)))
         (λ w stands. tt)
         (left_down down (booked ∙ ap (λ r. booked_by book ++ entries_seen (entries_of_start n r)) e ∙ append-nil (booked_by book)))
     did_fail (NoMemory true) e down st = down_did (NoMemory true) down tt tt falls_here (λ m. refl)
@@ -353,7 +362,7 @@ module _ {D : Type 0} (on : View D) (is_settled : D → Type 0) (only : (disk : 
         let (holds, so) = over (λ records pending. MayHold on ch.disk' n records pending × StartKeeps on old.plan n ch.disk ch.disk' records pending (records ++ pending)) known w f st in
         leads_so (Err (fault.NoMemory None)) [] (booked ∙ ap (λ r. booked_by book ++ entries_seen (entries_of_start n r)) e) w stands f
         f.slot (still_down w f holds down) (keeps_so w f f.slot (f.slot.disk ++ f.pending) (all_there w f) so) (unchanged w f)
-        (whole_stays (fault.NoMemory None) (record { step_is = refl; said_is = refl; sees = λ unseen. unseen }) (λ done. done) down w f refl))
+        (whole_stays (fault.NoMemory None) (record { step_is = refl; said_is = refl; sees = tt }) (λ done. done) down w f refl))
         (λ w stands. tt)
         (left_down down (booked ∙ ap (λ r. booked_by book ++ entries_seen (entries_of_start n r)) e ∙ append-nil (booked_by book)))
 
@@ -368,10 +377,10 @@ module _ {D : Type 0} (on : View D) (is_settled : D → Type 0) (only : (disk : 
       told = told_by n P old new ch flying flying seconds seconds book book' on.seen ch.does.told;
       quiet = quiet_by n P old new ch flying flying seconds seconds book book' on.faults ch.does.faults (λ boot _. st.mail.quiet);
       clock = refl;
-      lighter = tt;
+      passed = tt;
       books = longer_by book book' (entries_of_start n started) wrote;
       kept = tt;
-      leads = λ known ended w stands.
+      leads = λ known ended. lift on _ _ _ _ (even_of old) (even_of new) tt (λ v stands done. tt) (alone_keeps n P old new ch fresh_by) (λ w stands.
           let f = found w stands in
           let whole_so = over (WholeStartedOver on old.plan n ch.disk ch.disk' node) known w f st.over in
           let so = whole_so.mail in
@@ -389,9 +398,12 @@ module _ {D : Type 0} (on : View D) (is_settled : D → Type 0) (only : (disk : 
           ) (λ v seen maps.
           let boot_is : boot ≡ boot_of (f.slot.disk ++ so.starts.kept) + 1 = up.boot_is ∙ ap (λ (x : plain.Node). x.boot) so.starts.is in
           start_comes n P old new ch v maps old.plan (tells_in on.seen before) w seen f.slot.disk f.pending (slot_down w f) node so.starts.kept so.new boot up.is so.starts.pending_is so.starts.records
-          whole_so.starts boot_is (subst (λ b. b ≤ greatest_boot) boot_is up.small) (start_goes_now w stands f));
+          whole_so.starts boot_is (subst (λ b. b ≤ greatest_boot) boot_is up.small) (start_goes_now w stands f)));
       cause = λ w stands. tt;
     }
+      where
+        fresh_by : (b : WholeNode) → ch.life' ≡ Up b → KeepsReads (joint_life ch.life) (joint_seen b)
+        fresh_by b is = subst (λ l. KeepsReads (joint_life l) (joint_seen b)) (sym was_down) (subst (λ (x : WholeNode). KeepsReads (joint_life Down) (joint_seen x)) (up_same node b (sym up.is ∙ is)) up.fresh)
 
     pub start_did : (r : Result ℕ NodeFault) → started ≡ r → StepDid on (said_of_start n r) (step.Start n) before behind
     start_did (Ok boot) e =
@@ -421,16 +433,17 @@ module _ {D : Type 0} (on : View D) (n : ℕ) (old : Nodes D) (fit : node_refusa
     told = same_told on (state_with old flying seconds book);
     quiet = same_quiet on (state_with old flying seconds book);
     clock = refl;
-    lighter = tt;
+    passed = tt;
     books = same_book (booked_by book);
     kept = same_unchanged on (state_with old flying seconds book) (step.Start n);
-    leads = λ known ended w st.
+    leads = λ known ended story v st sound.
+        let w = mail_world_of (whole_world_of v) in
         let down : of_node old.lives.items n ≡ Some Down =
         here_down (of_node old.lives.items n) (fit_of (list_all (is_node old.plan) (n ∷ [])) (life_refusal (step.Start n) (life_among old n)) fit).1 in
         let (disk, held) = Rattle.cluster_world.proofs.Asked.disk_of old.disks.items old.lives.items n Down (old.all ∙ sym old.disk_each) down in
-        let (slot, here, stood) = slot_of on old.lives.items old.disks.items w.slots n Down disk st.slots down held in
+        let (slot, here, stood) = slot_of on old.lives.items old.disks.items w.slots n Down disk st.mail.slots down held in
         let (pending, is, fit_all, holds) = stood in
-        led_kept on (state_with old flying seconds book) (Err fault.Worn) (step.Start n) w st (record { step_is = refl; said_is = refl; sees = λ unseen. unseen }) (λ done. done)
-        (inl (inl (start_is_worn old.plan w n slot (named_of old.plan (life_among old) n fit) here pending is (ap (nat_le letters_end) (sym st.sent) ∙ late))), refl);
+        led_kept on (state_with old flying seconds book) (Err fault.Worn) (step.Start n) v st (record { step_is = refl; said_is = refl; sees = tt }) tt (λ done. done)
+        (inl (inl (start_is_worn old.plan w n slot (named_of old.plan (life_among old) n fit) here pending is (ap (nat_le letters_end) (sym st.mail.sent) ∙ late))), refl);
     cause = λ w st. tt;
   }

@@ -9,7 +9,7 @@ use Rattle.cluster_world.specs.Books.{booked_by}
 use Rattle.cluster_world.specs.Changes.{ChangesNode}
 use Rattle.cluster_world.specs.Flights.{InFlight}
 use Rattle.cluster_world.specs.Lives.{of_node}
-use Rattle.cluster_world.specs.Worlds.{WorldState, state_with, node_of_life}
+use Rattle.cluster_world.specs.Worlds.{WorldState, state_with, memory_of_life}
 use Rattle.cluster_world.specs.Steps.{IsUnchanged, ChangesNothing, reader_in}
 use Rattle.cluster_world.specs.declared.life.Life.{Life}
 use Rattle.cluster_world.specs.declared.life.Life.TheVariants.{Up}
@@ -20,10 +20,14 @@ use Rattle.cluster_world.specs.declared.fault.StepFault.{StepFault}
 use Rattle.cluster_world.specs.declared.fault.StepFault.TheVariants as fault
 use Rattle.cluster_world.proofs.Still.{some_same, nothing_read}
 use Rattle.cluster_world.proofs.Turned.{same_or, life_there, disk_there, life_else, disk_else, each_disk}
+use Rattle.node_maps.specs.Nodes.{node_of}
+use Rattle.cluster_world.specs.Keeping.{HasSameReads}
+use Rattle.cluster_world.proofs.SameReads.{memory_same}
 
 -- a node is as it was
-pub node_kept : (l l' : Life) (a b : WholeNode) → l ≡ Up a → l' ≡ Up b → IsAsBefore a.mail b.mail → node_of_life (Some l') ≡ node_of_life (Some l)
-node_kept l l' a b was is same = ap (λ (x : Life). node_of_life (Some x)) is ∙ ap Some same.seen ∙ sym (ap (λ (x : Life). node_of_life (Some x)) was)
+pub memory_kept : (l l' : Life) (a b : WholeNode) → l ≡ Up a → l' ≡ Up b → IsAsBefore a.mail b.mail → node_of b.maps ≡ node_of a.maps → HasSameReads a b → memory_of_life (Some l') ≡ memory_of_life (Some l)
+memory_kept l l' a b was is same maps reads =
+    ap (λ (x : Life). memory_of_life (Some x)) is ∙ ap Some (memory_same a b same.seen maps reads) ∙ sym (ap (λ (x : Life). memory_of_life (Some x)) was)
 
 -- whatever it is refused for
 pub changes_none : {D : Type 0} (on : View D) (why : StepFault) (step : Step) (old new : WorldState D) → IsUnchanged on step old new → ChangesNothing on (Err why) step old new
@@ -41,14 +45,14 @@ changes_none on (fault.NoMemory (Some failed)) step old new same = tt
 
 module _ {D : Type 0} (n : ℕ) (P : Life → D → Life → D → Type 0) (old new : Nodes D) (ch : ChangesNode n P old new) (flying flying' : InFlight) (seconds seconds' : ℕ) (book book' : Book) where
   -- all is as it was, where this node is, and its disk
-  pub unchanged_by : (on : View D) (step : Step) → node_of_life (Some ch.life') ≡ node_of_life (Some ch.life) → ((reader_in step ≡ Some n → ⊥) → ch.disk' ≡ ch.disk)
+  pub unchanged_by : (on : View D) (step : Step) → memory_of_life (Some ch.life') ≡ memory_of_life (Some ch.life) → ((reader_in flying.flights step ≡ Some n → ⊥) → ch.disk' ≡ ch.disk)
       → (((node : ℕ) → step ≡ Start node → ⊥) → IsOnlyRead on ch.disk ch.disk' × (on.faults ch.disk' ≡ on.faults ch.disk)) → flying' ≡ flying → seconds' ≡ seconds → booked_by book' ≡ booked_by book
       → IsUnchanged on step (state_with old flying seconds book) (state_with new flying' seconds' book')
   unchanged_by on step node_is disk_is read flies clock wrote = record {
     nodes = λ m. ⊎_elim
-        (λ (same : m ≡ n). subst (λ k. node_of_life (of_node new.lives.items k) ≡ node_of_life (of_node old.lives.items k)) (sym same)
-        (ap node_of_life (life_there n P old new ch) ∙ node_is ∙ sym (ap node_of_life ch.was)))
-        (λ (other : m ≢ n). ap node_of_life (life_else n P old new ch m other))
+        (λ (same : m ≡ n). subst (λ k. memory_of_life (of_node new.lives.items k) ≡ memory_of_life (of_node old.lives.items k)) (sym same)
+        (ap memory_of_life (life_there n P old new ch) ∙ node_is ∙ sym (ap memory_of_life ch.was)))
+        (λ (other : m ≢ n). ap memory_of_life (life_else n P old new ch m other))
         (same_or m n);
     disks = λ m d d' e f away. ⊎_elim
         (λ (same : m ≡ n).

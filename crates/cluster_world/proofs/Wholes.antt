@@ -23,7 +23,9 @@ use Rattle.maps_model.specs.Cluster.{manager_in}
 use Rattle.maps_model.specs.Words.{ManagersAreMembers}
 use Rattle.whole_model.specs.Whole as whole
 use Rattle.whole_world.specs.First.{first_world}
-use Rattle.whole_world.specs.Laws.{Stands}
+use Rattle.joint_world.specs.Laws.{Stands}
+use Rattle.joint_world.specs.World.{whole_world_of}
+use Rattle.joint_world.proofs.SameStep.{makes_same}
 use Rattle.whole_world.specs.Makes.{MakesStep}
 use Rattle.whole_world.specs.Settled.{IsKnownEpoch, unopened_world}
 use Rattle.whole_world.specs.Sweeps.{IsCharted}
@@ -65,52 +67,11 @@ use Rattle.cluster_world.specs.declared.world.World.{World}
 use Rattle.cluster_world.proofs.Chained.{stays, stays_came, step_stays}
 use Rattle.cluster_world.proofs.Ended.{sound_ended}
 use Rattle.cluster_world.proofs.Lasting.{up_there}
+use Rattle.cluster_world.proofs.Leading.{led_whole, opens_whole}
 use Rattle.cluster_world.proofs.Mirrors.{IsOf}
 use Rattle.cluster_world.proofs.Ordered.{order_makes, order_are}
 use Rattle.cluster_world.proofs.Quietly.{AreQuiet, moves_quiet, settle_quiet, tick_or}
 use Rattle.cluster_world.proofs.Still.{some_same}
-
--- whoever manages in a map that was assigned is a member
-managing : (claims : List Claim) (members : List Member) (buckets : ℕ) (epoch : EpochId) (rows : List MapRow) → IsAssigned claims members buckets epoch rows
-    → (bucket manager : ℕ) → manager_in (slice_get rows bucket) ≡ Some manager → IsOfMembers members manager
-managing claims members buckets epoch rows a bucket manager e = by (slice_get rows bucket) refl e
-  where
-    by : (x : Option MapRow) → slice_get rows bucket ≡ x → manager_in x ≡ Some manager → IsOfMembers members manager
-    by None f e = absurd (let never : None ≡ Some manager = e in cc)
-    by (Some row) f e = subst (IsOfMembers members) (some_same row.manager manager e) (⊎_elim
-        (λ (k : ClaimedRow claims members bucket row). subst (IsOfMembers members) (sym k.same_node) k.best.counts.of_member)
-        (λ (v : FreeRow claims members epoch rows bucket row). v.least.of_member)
-        (a.each bucket row f))
-
-first_some : (nodes : ℕ) → 1 ≤ nodes → 0 < length (first_members nodes)
-first_some zero some = absurd (omega (arith, some))
-first_some (suc k) some = omega (arith, length-append (first_members k) (record { node = suc k; boot = 1; was = no_epoch } ∷ []))
-
-pub first_managers : (plan : Plan) → 1 ≤ plan.nodes → ManagersAreMembers (first_membership plan.nodes (first_map plan))
-first_managers plan some user manager h =
-    managing [] (first_members plan.nodes) plan.buckets first_epoch (first_map plan) (some_map [] (first_members plan.nodes) plan.buckets first_epoch (first_some plan.nodes some))
-    (bucket_at user (length (first_map plan))) manager h
-
--- A cluster that opens in its first epoch is sound, and so is one of no nodes.
-pub first_world_stands : (plan : Plan) → plan.nodes ≤ 64 → Stands plan (first_world plan.nodes (first_map plan)) × (mail_world_of (first_world plan.nodes (first_map plan)) ≡ opening_world plan.nodes (first_map plan))
-first_world_stands plan few = by plan.nodes refl
-  where
-    by : (nodes : ℕ) → plan.nodes ≡ nodes → Stands plan (first_world plan.nodes (first_map plan)) × (mail_world_of (first_world plan.nodes (first_map plan)) ≡ opening_world plan.nodes (first_map plan))
-    by zero e = (
-      subst (λ (k : ℕ). Stands plan (first_world k (first_map plan))) (sym e) (subst (λ (k : ℕ). Stands plan (unopened_world k)) e (opens plan few)),
-      subst (λ (k : ℕ). mail_world_of (first_world k (first_map plan)) ≡ opening_world k (first_map plan)) (sym e) refl,
-    )
-    by (suc k) e = let some : 1 ≤ plan.nodes = omega (arith, e) in first_stands plan (first_map plan) some few (first_managers plan some)
-
--- and settling can count on it
-pub first_world_charted : (plan : Plan) → 0 < plan.buckets → IsCharted plan (first_world plan.nodes (first_map plan))
-first_world_charted plan some = by plan.nodes refl
-  where
-    by : (nodes : ℕ) → plan.nodes ≡ nodes → IsCharted plan (first_world plan.nodes (first_map plan))
-    by zero e = subst (λ (k : ℕ). IsCharted plan (first_world k (first_map plan))) (sym e) (subst (λ (k : ℕ). IsCharted plan (unopened_world k)) e (opens_charted plan))
-    by (suc k) e =
-        let nodes : 1 ≤ plan.nodes = omega (arith, e) in
-        first_charted plan (first_map plan) (some_map [] (first_members plan.nodes) plan.buckets first_epoch (first_some plan.nodes nodes)).size some
 
 -- a user's leave hands no message in
 leave_ended : (user : List ℕ) (begun : WorldCall) → IsLeave user begun → IsTextEnded (machine_call begun)
@@ -119,6 +80,10 @@ leave_ended user (calls.Deliver deliver) is = absurd is
 leave_ended user (calls.Login name proof) is = absurd is
 leave_ended user (calls.Fetch name id holders from most) is = absurd is
 leave_ended user (calls.Strike name items) is = absurd is
+
+-- it stands for what the whole machine sees of the world
+abbrev pub as_whole : {D : Type 0} (on : View D) (plan : Plan) (world : World D) (h : IsWhole on plan world) → StandsForWhole on (state_of world) (whole_world_of h.v)
+as_whole on plan world h = record { mail = h.stands.mail; maps = h.stands.maps }
 
 module _ {D : Type 0} (on : View D) where
   -- a node that is up, in the whole machine
@@ -148,27 +113,18 @@ module _ {D : Type 0} (on : View D) where
   known_there world v g st (inr (flight, m, is)) = inr (flight.letter, in_letters flight v.flying (subst (Among flight) st.mail.flying m), is)
 
   module _ (plan : Plan) (told : Bool) where
-    -- what one step leads to
-    pub record StepsWhole (result : Result Said StepFault) (made_step : Step) (new : World D) (v : whole_world.World) : Type 0 where
-      pub now : whole_world.World
-      pub sound : Stands plan now
-      pub charted : IsCharted plan now
-      pub stands : StandsForWhole on (state_of new) now
-      pub made : MakesStep plan told v (whole_step made_step) (whole_outcome result) now
+    -- what one step leads to, as the whole machine has it
+    pub record StepsWhole (result : Result Said StepFault) (made_step : Step) (old new : World D) (h : IsWhole on plan old) : Type 0 where
+      pub whole : IsWhole on plan new
+      pub made : MakesStep plan told (whole_world_of h.v) (whole_step made_step) (whole_outcome result) (whole_world_of whole.v)
 
     pub step_whole : (result : Result Said StepFault) (step : Step) (old new : World D) → IsOf on plan told old → (told ≡ true) ⊎ IsBlind plan.nodes step → IsEnded step → IsStep on result step old new
-        → (v : whole_world.World) → Stands plan v → IsCharted plan v → StandsForWhole on (state_of old) v → StepsWhole result step new v
-    step_whole result step old new of known ended is v sound charted stands =
-        let l = is.did.leads (⊎_elim (λ t. inl (of.told_is ∙ t)) (λ b. inr (subst (λ (p : Plan). IsBlind p.nodes step) (sym of.plan_is) b)) known) ended (mail_world_of v) stands.mail in
-        let w = l.whole v refl (subst (λ (p : Plan). Stands p v) (sym of.plan_is) sound) stands.maps in
-        let made : MakesStep plan told v (whole_step step) (whole_outcome result) w.now = subst (λ t. MakesStep plan t v (whole_step step) (whole_outcome result) w.now) of.told_is
-        (subst (λ (p : Plan). MakesStep p (disks_tell on.seen old) v (whole_step step) (whole_outcome result) w.now) of.plan_is w.made) in
+        → (h : IsWhole on plan old) → StepsWhole result step old new h
+    step_whole result step old new of known ended is h =
+        let l = led_whole on plan told result step old new of.plan_is of.told_is known ended is h in
         record {
-          now = w.now;
-          sound = all_stand plan told v w.now (record { step = whole_step step; outcome = whole_outcome result } ∷ []) (w.now, made, refl) sound;
-          charted = all_chart plan told v w.now (record { step = whole_step step; outcome = whole_outcome result } ∷ []) (w.now, made, refl) sound charted;
-          stands = record { mail = subst (StateStandsFor on (state_of new)) (sym w.seen) l.stands; maps = w.maps };
-          made = made;
+          whole = l.whole;
+          made = makes_same plan told h.story h.v (subst (λ t. Stands plan t h.story h.v) of.told_is h.sound) (whole_step step) (whole_outcome result) l.whole.v l.made;
         }
 
     pub is_of_next : (result : Result Said StepFault) (step : Step) (old new : World D) → IsOf on plan told old → IsStep on result step old new → IsOf on plan told new
@@ -176,7 +132,7 @@ module _ {D : Type 0} (on : View D) where
 
     whole_on : (result : Result Said StepFault) (step : Step) (old new : World D) → IsOf on plan told old → (told ≡ true) ⊎ IsBlind plan.nodes step → IsEnded step → IsStep on result step old new
         → IsWhole on plan old → IsWhole on plan new
-    whole_on result step old new of known ended is h = let s = step_whole result step old new of known ended is h.v h.sound h.charted h.stands in record { v = s.now; sound = s.sound; charted = s.charted; stands = s.stands }
+    whole_on result step old new of known ended is h = (step_whole result step old new of known ended is h).whole
 
     first_known : (one : StepMade) (more : List StepMade) → (told ≡ true) ⊎ AreBlind plan.nodes (one ∷ more) → (told ≡ true) ⊎ IsBlind plan.nodes one.step
     first_known one more (inl t) = inl t
@@ -238,17 +194,11 @@ module _ {D : Type 0} (on : View D) where
   world_is_whole plan lines outcomes left start last d =
       let s = stays on outcomes [] left start last d.makes in
       let told = disks_tell on.seen last in
-      let f = first_world_stands plan (omega (arith, start.nodes.few, ap (λ (p : Plan). p.nodes) d.begins.plan_is)) in
-      let begins : IsWhole on plan start = record {
-        v = first_world plan.nodes (first_map plan);
-        sound = f.0;
-        charted = first_world_charted plan (omega (arith, start.nodes.bucketed, ap (λ (p : Plan). p.buckets) d.begins.plan_is));
-        stands = record { mail = subst (StateStandsFor on (state_of start)) (sym f.1) d.begins.stands; maps = d.begins.maps };
-      } in
+      let begins : IsWhole on plan start = subst (λ (p : Plan). IsWhole on p start) d.begins.plan_is (opens_whole on plan start d.begins).0 in
       makes_whole plan told lines outcomes [] left start last (record { plan_is = d.begins.plan_is; told_is = sym s.told })
       (⊎_elim (λ t. inl (s.told ∙ t)) (λ b. inr (subst (λ (p : Plan). AllBlind p.nodes outcomes) d.begins.plan_is b)) d.known) d.sessions d.makes begins
 
   pub one_map_per_epoch : OneMapPerEpoch on
   one_map_per_epoch plan lines outcomes left start last d a b known_a known_b e =
       let h = world_is_whole plan lines outcomes left start last d in
-      one_map plan h.v h.sound a b (known_there last h.v a h.stands known_a) (known_there last h.v b h.stands known_b) e
+      one_map plan (whole_world_of h.v) h.sound.whole a b (known_there last (whole_world_of h.v) a (as_whole on plan last h) known_a) (known_there last (whole_world_of h.v) b (as_whole on plan last h) known_b) e

@@ -1,7 +1,6 @@
 -- A step for messages is one of the whole machine, once the maps follow it.
 use Rattle.std.proofs.Common.{◌≡◌, ◌⊎◌, inl, inr, ⊎_elim, ℕ, Bool, List, length, Option, Some, None, Result, Ok, Err, refl, sym, ap, ◌∙◌, subst}
 use Rattle.std.specs.Option.{option_map}
-use Rattle.mail_model.specs.Plan.{Plan}
 use Rattle.cluster_model.specs.Cluster as plain
 use Rattle.cluster_model.specs.Makes as mail_makes
 use Rattle.cluster_model.specs.Steps as mail_steps
@@ -21,17 +20,16 @@ use Rattle.node_store.specs.Disks.{View}
 use Rattle.whole_node.specs.declared.node.WholeNode.{WholeNode}
 use Rattle.cluster_world.specs.Lives.{of_node}
 use Rattle.cluster_world.specs.Maps.{AreMaps}
-use Rattle.cluster_world.specs.Seen.{step_seen, outcome_seen, whole_step, whole_outcome}
-use Rattle.cluster_world.specs.Steps.{EveryStopKeeps, LeadsTo, LeadsWhole}
+use Rattle.cluster_world.specs.Seen.{step_seen, outcome_seen, whole_outcome}
+use Rattle.cluster_world.specs.Steps.{EveryStopKeeps, LeadsMail, LeadsWhole}
 use Rattle.cluster_world.specs.Worlds.{WorldState, tells_in, StateStandsFor}
 use Rattle.cluster_world.specs.declared.fault.StepFault.{StepFault}
-use Rattle.cluster_world.specs.declared.life.Life.{Life}
 use Rattle.cluster_world.specs.declared.life.Life.TheVariants.{Up}
 use Rattle.cluster_world.specs.declared.nodes.Nodes.{Nodes}
 use Rattle.cluster_world.specs.declared.step.Said.{Said}
 use Rattle.cluster_world.specs.declared.step.Step.{Step}
 use Rattle.cluster_world.proofs.Follows.{MapsFollow, drop_all}
-use Rattle.cluster_world.proofs.Told.{told, IsOfMail, IsDone, refused_on}
+use Rattle.cluster_world.proofs.Told.{told, IsNoForm, IsOfMail, IsDone, refused_on}
 use Rattle.cluster_world.proofs.Joined.{joined, joined_world, joined_seen, world_seen, joined_maps, node_up}
 
 module _ {D : Type 0} (on : View D) (result : Result Said StepFault) (step : Step) (old new : WorldState D) (even : length old.disks ≡ length old.lives) (even' : length new.disks ≡ length new.lives)
@@ -82,7 +80,7 @@ module _ {D : Type 0} (on : View D) (result : Result Said StepFault) (step : Ste
       abbrev Whole : whole_steps.Step → whole_steps.StepOutcome → Type 0
       Whole s o = (end : whole_world.World) × (mail_world_of end ≡ l.next) × AreMaps new.lives end.slots × whole_makes.MakesStep old.plan (tells_in on.seen old) v s o end
 
-      made_on : (one : mail_steps.Step) (out : mail_steps.StepOutcome) → (IsDone out → IsForMessages v one) → (mail_makes.IsUnseen one → ⊥) → mail_makes.MakesStep old.plan (tells_in on.seen old) (mail_world_of v) one out l.next
+      made_on : (one : mail_steps.Step) (out : mail_steps.StepOutcome) → (IsDone out → IsForMessages v one) → IsNoForm one → mail_makes.MakesStep old.plan (tells_in on.seen old) (mail_world_of v) one out l.next
           → Whole (whole_steps.Step.OfMessages one) (told out)
       made_on one (mail_steps.StepOutcome.Says said) for sees (goes, does) = (
         now,
@@ -122,7 +120,7 @@ module _ {D : Type 0} (on : View D) (result : Result Said StepFault) (step : Ste
           }
 
   -- So the step leads on.
-  pub led : IsOfMail result step → ((v : whole_world.World) → mail_world_of v ≡ w → Stands old.plan v → IsDone (outcome_seen result) → IsForMessages v (step_seen step)) → Along → LeadsTo on result step old new w
+  pub led : IsOfMail result step → ((v : whole_world.World) → mail_world_of v ≡ w → Stands old.plan v → IsDone (outcome_seen result) → IsForMessages v (step_seen step)) → Along → LeadsMail on result step old new w
   led is for l = record {
     next = l.next;
     stands = l.stands;

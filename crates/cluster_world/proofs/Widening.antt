@@ -23,7 +23,7 @@ use Rattle.node_core.specs.Pushing.{WidensCopy}
 use Rattle.node_core.specs.Works.{Rule, LeavesUp}
 use Rattle.node_core.specs.declared.fault.NodeFault.{NodeFault}
 use Rattle.node_core.specs.declared.fault.NodeFault.TheVariants.{Disk, Worn, NoMemory}
-use Rattle.whole_node.specs.Nodes.{WholeWorks}
+use Rattle.whole_node.specs.Nodes.{WholeWorks, joint_seen}
 use Rattle.whole_node.specs.declared.node.WholeNode.{WholeNode}
 use Rattle.world_book.specs.Books.{entries_of}
 use Rattle.world_book.specs.declared.book.Book.{Book}
@@ -50,11 +50,16 @@ use Rattle.cluster_world.proofs.Refusing.{fit_of}
 use Rattle.cluster_world.proofs.Falling.{entries_more}
 use Rattle.cluster_world.proofs.Asked.{slot_same}
 use Rattle.cluster_world.proofs.AfterWidening.{works_there, StaysUp, FallsDown, did_stay, read_stays, stopped_falls, stays_lives, stays_ready, stays_falls, stays_told, stays_quiet, stays_settled, down_lives, down_ready, down_falls, down_told, down_quiet, down_settled, FoundUp, found_up, did_there, CutThere, cut_there, read_there, within_first, caused, up_of, slot_up_of}
-use Rattle.cluster_world.proofs.Unchanged.{unchanged_by, node_kept}
+use Rattle.cluster_world.proofs.Unchanged.{unchanged_by, memory_kept}
 use Rattle.cluster_world.proofs.Follows.{alone_follows, fall_follows, idle_follows, only_none, rule_follows}
 use Rattle.cluster_world.proofs.Turning.{up_same}
 use Rattle.cluster_world.proofs.Wholly.{led, even_of}
 use Rattle.cluster_world.proofs.Longer.{same_book, longer_by}
+use Rattle.cluster_world.proofs.Lifting.{lift}
+use Rattle.cluster_world.proofs.Beside.{alone_keeps, turns_keep, turns_same}
+use Rattle.joint_world.specs.World.{mail_world_of}
+use Rattle.joint_world.specs.Staying.{KeepsReads}
+use Rattle.cluster_world.specs.Keeping.{joint_life}
 
 -- The machine refuses it only once no letters are sent any more.
 module _ (plan : Plan) (w : machine.World) (n to : ℕ) (user : List ℕ) (id : Id) (slot : Slot) (node : plain.Node)
@@ -62,17 +67,17 @@ module _ (plan : Plan) (w : machine.World) (n to : ℕ) (user : List ℕ) (id : 
   abbrev Worns : Bool → Option steps.StepFault
   Worns b = if b || is_worn_at plan w.seconds (steps.Step.Widen n user id to) (slot_at w.slots n) then Some steps.StepFault.Worn else None
 
-  fault_is : (b : Bool) → nat_le letters_end w.sent ≡ b → step_fault plan (steps.Step.Widen n user id to) w ≡ first_fault (None ∷ None ∷ None ∷ None ∷ Worns b ∷ None ∷ [])
+  fault_is : (b : Bool) → nat_le letters_end w.sent ≡ b → step_fault plan (steps.Step.Widen n user id to) w ≡ first_fault (None ∷ None ∷ None ∷ Worns b ∷ None ∷ [])
   fault_is b e = firsts _ _ _
       (ap (λ x. if x then None else Some steps.StepFault.NoSuchNode) named)
       (ap (slot_fault (steps.Step.Widen n user id to)) here ∙ ap (steps.life_fault (steps.Step.Widen n user id to)) up)
       (ap Worns e)
     where
-      firsts : (x y z : Option steps.StepFault) → x ≡ None → y ≡ None → z ≡ Worns b → first_fault (x ∷ y ∷ None ∷ None ∷ z ∷ None ∷ []) ≡ first_fault (None ∷ None ∷ None ∷ None ∷ Worns b ∷ None ∷ [])
+      firsts : (x y z : Option steps.StepFault) → x ≡ None → y ≡ None → z ≡ Worns b → first_fault (x ∷ y ∷ None ∷ z ∷ None ∷ []) ≡ first_fault (None ∷ None ∷ None ∷ Worns b ∷ None ∷ [])
       firsts x y z p q r = rw (p, q, r) refl
 
   widen_goes : nat_le letters_end w.sent ≡ false → step_fault plan (steps.Step.Widen n user id to) w ≡ None
-  widen_goes early = fault_is false early ∙ ap (λ o. first_fault (None ∷ None ∷ None ∷ None ∷ (if is_worn_at plan w.seconds (steps.Step.Widen n user id to) o then Some steps.StepFault.Worn else None) ∷ None ∷ [])) here
+  widen_goes early = fault_is false early ∙ ap (λ o. first_fault (None ∷ None ∷ None ∷ (if is_worn_at plan w.seconds (steps.Step.Widen n user id to) o then Some steps.StepFault.Worn else None) ∷ None ∷ [])) here
 
   widen_is_worn : nat_le letters_end w.sent ≡ true → step_fault plan (steps.Step.Widen n user id to) w ≡ Some steps.StepFault.Worn
   widen_is_worn late = fault_is true late
@@ -97,6 +102,10 @@ module _ {D : Type 0} (on : View D) (n to : ℕ) (user : List ℕ) (id : Id) (ol
 
     was : ch.life ≡ Up a
     was = ch.does.0.was
+
+    own : (node : WholeNode) → ch.life' ≡ Up node → KeepsReads (joint_life ch.life) (joint_seen node)
+    own = turns_keep on.seen (λ result old before new after. WidensCopy on n to (Message user id) old before new after result) (λ result old before new after. FollowsRule (λ node disk. widen n to (Message user id) node disk) result old new)
+        done ch.life ch.disk ch.life' ch.disk' ch.does.0
 
     -- what came of it
     abbrev Comes : Result Bool NodeFault → Type 0
@@ -181,13 +190,13 @@ module _ {D : Type 0} (on : View D) (n to : ℕ) (user : List ℕ) (id : Id) (ol
           told = stays_told on n P old new ch ready a was b s flying flying seconds seconds book book';
           quiet = stays_quiet on n P old new ch ready a was b s flying flying seconds seconds book book';
           clock = refl;
-          lighter = tt;
+          passed = tt;
           books = longer_by book book' (entries_of_widening n done) wrote;
           kept = tt;
-          leads = λ known ended w st.
+          leads = λ known ended. lift on _ _ _ _ (even_of old) (even_of new) tt (λ v stands done. tt) (alone_keeps n P old new ch own) (λ w st.
               let f = found_up on n P old new ch ready a was w.slots st.slots in
               let t = did_there on n P old new ch ready a was w.slots st.slots widens b [] c.1 c.0.1 f in
-              led on (Ok (said.Widened did)) (step.Widen n user id to) before behind (even_of old) (even_of new) w st (record { step_is = refl; said_is = refl; sees = λ unseen. unseen }) (λ v seen sound done_. tt) (record {
+              led on (Ok (said.Widened did)) (step.Widen n user id to) before behind (even_of old) (even_of new) w st (record { step_is = refl; said_is = refl; sees = tt }) (λ v seen sound done_. tt) (record {
                 next = record w { slots = with_slot w.slots n (slot_up (widens (node_seen a.mail) f.slot.disk).node (widens (node_seen a.mail) f.slot.disk).disk) };
                 stands = record { slots = t.moved.stand; flying = st.flying; sent = st.sent; seconds = st.seconds; book = booked (Ok did) e ∙ append-nil (booked_by book) ∙ st.book };
                 made = (
@@ -200,7 +209,7 @@ module _ {D : Type 0} (on : View D) (n to : ℕ) (user : List ℕ) (id : Id) (ol
                     ap (λ (z : WholeNode). node_of z.maps) (up_same y b (sym is' ∙ c.1))
                     ∙ rule_follows widens n a b f.slot.disk c.0.1.added own_here (follows_so (Ok did) e) f.keeps (c.0.1.disk f.slot.disk f.keeps)
                     ∙ ap (λ (z : WholeNode). follows n (node_of z.maps) f.slot.disk (drop (length f.slot.disk) (widens (node_seen a.mail) f.slot.disk).disk)) (up_same a x (sym was ∙ was')));
-              });
+              }));
           cause = λ w st. tt;
         }
 
@@ -229,19 +238,19 @@ module _ {D : Type 0} (on : View D) (n to : ℕ) (user : List ℕ) (id : Id) (ol
           told = down_told on n P old new ch ready a was s flying flying seconds seconds book book';
           quiet = down_quiet on n P old new ch ready a was s flying flying seconds seconds book book';
           clock = refl;
-          lighter = tt;
+          passed = tt;
           books = longer_by book book' (entries_of_widening n done) wrote;
           kept = tt;
-          leads = λ known ended w st.
+          leads = λ known ended. lift on _ _ _ _ (even_of old) (even_of new) tt (λ v stands done. tt) (alone_keeps n P old new ch own) (λ w st.
               let f = found_up on n P old new ch ready a was w.slots st.slots in
               let t = cut_there on n P old new ch ready a was w.slots st.slots widens c.1 c.0.1 f in
-              led on (Ok (said.Faulted n)) (step.Widen n user id to) before behind (even_of old) (even_of new) w st (record { step_is = refl; said_is = refl; sees = λ unseen. unseen }) (λ v seen sound done_. tt) (record {
+              led on (Ok (said.Faulted n)) (step.Widen n user id to) before behind (even_of old) (even_of new) w st (record { step_is = refl; said_is = refl; sees = tt }) (λ v seen sound done_. tt) (record {
                 next = cut_world w n f.slot.disk t.front t.pending;
                 stands = cut_stands (Err Disk) e refl w st f t;
                 made = (goes w st f, Widens.FailsWidening (node_seen a.mail) f.slot.disk f.up refl (record { front = t.front; pending = t.pending; one = t.one; cut = t.cut; is = refl }));
                 stops = record { each = t.moved.stops };
                 follow = fall_follows on n P old new ch w.slots f.slot (record { life = plain.Life.Down t.pending; disk = f.slot.disk ++ t.front }) f.here (λ y up. let never : Down ≡ Up y = sym c.1 ∙ up in cc);
-              });
+              }));
           cause = λ w st. caused on n P old new ch (step.Widen n user id to) flying flying seconds seconds book book' (inl c.0.2.1);
         }
 
@@ -256,19 +265,19 @@ module _ {D : Type 0} (on : View D) (n to : ℕ) (user : List ℕ) (id : Id) (ol
           told = down_told on n P old new ch ready a was s flying flying seconds seconds book book';
           quiet = down_quiet on n P old new ch ready a was s flying flying seconds seconds book book';
           clock = refl;
-          lighter = tt;
+          passed = tt;
           books = longer_by book book' (entries_of_widening n done) wrote;
           kept = tt;
-          leads = λ known ended w st.
+          leads = λ known ended. lift on _ _ _ _ (even_of old) (even_of new) tt (λ v stands done. tt) (alone_keeps n P old new ch own) (λ w st.
               let f = found_up on n P old new ch ready a was w.slots st.slots in
               let t = cut_there on n P old new ch ready a was w.slots st.slots widens c.1 c.0.1 f in
-              led on (Err (fault.NoMemory (Some n))) (step.Widen n user id to) before behind (even_of old) (even_of new) w st (record { step_is = refl; said_is = refl; sees = λ unseen. unseen }) (λ v seen sound done_. tt) (record {
+              led on (Err (fault.NoMemory (Some n))) (step.Widen n user id to) before behind (even_of old) (even_of new) w st (record { step_is = refl; said_is = refl; sees = tt }) (λ v seen sound done_. tt) (record {
                 next = cut_world w n f.slot.disk t.front t.pending;
                 stands = cut_stands (Err (NoMemory true)) e refl w st f t;
                 made = RunsShort.Widening user id to (node_seen a.mail) f.slot.disk refl f.up (record { front = t.front; pending = t.pending; one = t.one; cut = t.cut; is = refl });
                 stops = record { each = t.moved.stops };
                 follow = fall_follows on n P old new ch w.slots f.slot (record { life = plain.Life.Down t.pending; disk = f.slot.disk ++ t.front }) f.here (λ y up. let never : Down ≡ Up y = sym c.1 ∙ up in cc);
-              });
+              }));
           cause = λ w st. tt;
         }
 
@@ -284,15 +293,15 @@ module _ {D : Type 0} (on : View D) (n to : ℕ) (user : List ℕ) (id : Id) (ol
           told = stays_told on n P old new ch ready a was b s flying flying seconds seconds book book';
           quiet = stays_quiet on n P old new ch ready a was b s flying flying seconds seconds book book';
           clock = refl;
-          lighter = tt;
+          passed = tt;
           books = longer_by book book' (entries_of_widening n done) wrote;
-          kept = unchanged_by n P old new ch flying flying seconds seconds book book' on (step.Widen n user id to) (node_kept ch.life ch.life' a b was c.1 c.0.0)
+          kept = unchanged_by n P old new ch flying flying seconds seconds book book' on (step.Widen n user id to) (memory_kept ch.life ch.life' a b was c.1 c.0.0 (ap node_of (follows_so (Err (NoMemory false)) e)) (turns_same ch.life ch.life' own a b was c.1 (ap node_of (follows_so (Err (NoMemory false)) e))))
               (λ _. c.0.1) (λ _. (nothing_read on ch.disk ch.disk' c.0.1, ap on.faults c.0.1)) refl refl (booked (Err (NoMemory false)) e ∙ append-nil (booked_by book));
-          leads = λ known ended w st.
+          leads = λ known ended. lift on _ _ _ _ (even_of old) (even_of new) tt (λ v stands done. tt) (alone_keeps n P old new ch own) (λ w st.
               let f = found_up on n P old new ch ready a was w.slots st.slots in
               let m = read_there on n P old new ch ready a was w.slots st.slots (nothing_read on ch.disk ch.disk' c.0.1) f b c.1 c.0.0 in
               let same : with_slot w.slots n f.slot ≡ w.slots = slot_same w.slots n f.slot f.here in
-              led on (Err (fault.NoMemory None)) (step.Widen n user id to) before behind (even_of old) (even_of new) w st (record { step_is = refl; said_is = refl; sees = λ unseen. unseen }) (λ v seen sound done_. tt) (record {
+              led on (Err (fault.NoMemory None)) (step.Widen n user id to) before behind (even_of old) (even_of new) w st (record { step_is = refl; said_is = refl; sees = tt }) (λ v seen sound done_. tt) (record {
                 next = w;
                 stands = record {
                   slots = subst (λ slots. SlotsStand on new.lives.items new.disks.items slots) same m.stand;
@@ -304,7 +313,7 @@ module _ {D : Type 0} (on : View D) (n to : ℕ) (user : List ℕ) (id : Id) (ol
                 made = refl;
                 stops = record { each = λ k d d' x x' p q r t. m.stops k d d' x x' p q r (ap (λ slots. slot_at slots k) same ∙ t) };
                 follow = idle_follows on n P old new new ch (λ slots. slots) (only_none on new) w.slots f.slot f.here w.slots (λ k. refl) a b was c.1 (ap node_of (follows_so (Err (NoMemory false)) e));
-              });
+              }));
           cause = λ w st. tt;
         }
 
@@ -328,13 +337,14 @@ module _ {D : Type 0} (on : View D) (n to : ℕ) (user : List ℕ) (id : Id) (ol
       told = same_told on (state_with old flying seconds book);
       quiet = same_quiet on (state_with old flying seconds book);
       clock = refl;
-      lighter = tt;
+      passed = tt;
       books = same_book (booked_by book);
       kept = same_unchanged on (state_with old flying seconds book) (step.Widen n user id to);
-      leads = λ known ended w st.
+      leads = λ known ended story v st sound.
+          let w = mail_world_of v in
           let (node, here) = up_of (step.Widen n user id to) (of_node old.lives.items n) tt (fit_of (list_all (is_node old.plan) (n ∷ to ∷ [])) (life_refusal (step.Widen n user id to) (life_among old n)) fit).1 in
-          let (slot, found, (seen, up)) = slot_up_of on old n node here w.slots st.slots in
-          led_kept on (state_with old flying seconds book) (Err fault.Worn) (step.Widen n user id to) w st (record { step_is = refl; said_is = refl; sees = λ unseen. unseen }) (λ done. done)
-          (inl (inl (widen_is_worn old.plan w n to user id slot seen named found up (ap (nat_le letters_end) (sym st.sent) ∙ late))), refl);
+          let (slot, found, (seen, up)) = slot_up_of on old n node here w.slots st.mail.slots in
+          led_kept on (state_with old flying seconds book) (Err fault.Worn) (step.Widen n user id to) v st (record { step_is = refl; said_is = refl; sees = tt }) tt (λ done. done)
+          (inl (inl (widen_is_worn old.plan w n to user id slot seen named found up (ap (nat_le letters_end) (sym st.mail.sent) ∙ late))), refl);
       cause = λ w st. tt;
     }

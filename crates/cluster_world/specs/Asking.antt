@@ -5,15 +5,18 @@ use Rattle.cluster_model.specs.Cluster as plain
 use Rattle.cluster_model.specs.Progress.{Ask, wants_entries}
 use Rattle.cluster_model.specs.Progress.Ask.{Pending, Done}
 use Rattle.cluster_model.specs.Progress.NodeAnswer.{Stored, Dropped, Read, Failed}
+use Rattle.joint_model.specs.Joint as joint
+use Rattle.joint_world.specs.Staying.{KeepsReads}
 use Rattle.call_tickets.specs.declared.answer.Ask as code
 use Rattle.node_tickets.specs.Standing.{asks_seen, asks_at, asked_out, done_at, wants_at, ticket_taken_out}
 use Rattle.node_core.specs.Nodes.{node_seen, IsWhole, ChangesTickets}
 use Rattle.node_core.specs.Standing.{ticket_standing}
 use Rattle.node_core.specs.declared.node.Node.{Node}
-use Rattle.whole_node.specs.Nodes.{WholeWorks}
+use Rattle.whole_node.specs.Nodes.{joint_seen, WholeWorks}
 use Rattle.whole_node.specs.declared.node.WholeNode.{WholeNode}
 use Rattle.world_book.specs.declared.entry.Entry.{Entry}
 use Rattle.cluster_world.specs.Books.{entries_seen}
+use Rattle.cluster_world.specs.Telling.{standing_on}
 use Rattle.cluster_world.specs.declared.life.Life.{Life}
 use Rattle.cluster_world.specs.declared.life.Life.TheVariants.{Up, Down, Lost}
 
@@ -48,6 +51,7 @@ AreForTicket ticket Lost entries = entries ≡ []
 pub record HasTickets (tickets : plain.Tickets) (old new : WholeNode) : Type 0 where
   pub mail : ChangesTickets tickets old.mail new.mail
   pub maps : new.maps ≡ old.maps
+  pub beside : KeepsReads (joint.Life.Up (joint_seen old)) (joint_seen new)
   pub works : (seen : Option (List ℕ)) → WholeWorks seen old → WholeWorks seen new
 
 -- the node was asked
@@ -78,8 +82,6 @@ IsRetoldOn left_of life disk life' disk' = IsRetold left_of life life' × (disk'
 abbrev pub tickets_without : Number → Node → plain.Tickets
 tickets_without ticket node = ticket_taken_out ticket.seq (ticket_standing node ticket) (node_seen node).tickets
 
--- whether a ticket stands at a node that is up
-pub record TicketStands (ticket : Number) (stands : Bool) (life : Life) : Type 0 where
-  pub node : WholeNode
-  pub up : life ≡ Up node
-  pub is : stands ≡ is_some (ticket_standing node.mail ticket)
+-- a ticket of messages stands at a node that is up
+abbrev pub StandsAmongMails : Number → Option Life → Type 0
+StandsAmongMails ticket life = is_some (standing_on life ticket) ≡ true

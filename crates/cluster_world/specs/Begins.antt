@@ -5,7 +5,7 @@ use Rattle.mail_model.specs.Book.{BookEntry}
 use Rattle.object_model.specs.Letters.{Number, Letter}
 use Rattle.node_store.specs.Disks.{View}
 use Rattle.cluster_model.specs.Steps.{NodeCall}
-use Rattle.cluster_model.specs.Steps.NodeCall.{Deliver, Strike}
+use Rattle.cluster_model.specs.Steps.NodeCall.{Strike}
 use Rattle.cluster_model.specs.Makes.{struck_entries}
 use Rattle.node_core.specs.Beginning.{NodeBegins}
 use Rattle.node_core.specs.Works.{LeavesUp}
@@ -35,12 +35,6 @@ BeginsAt on is_settled plan n seconds call result life disk life' disk' =
     TurnsBy on.seen (λ result old before new after. NodeBegins on plan n seconds call old before new after result) (λ result old before new after. FollowsCall on plan n seconds call result old before new after)
     result life disk life' disk'
     × (LeavesUp result → is_settled disk → is_settled disk')
-
--- the calls that have a rule in a plan of so many nodes: those that change mailboxes, and in a plan of one node all
-abbrev pub HasRule : ℕ → NodeCall → Type 0
-HasRule nodes (Deliver mail) = ⊤
-HasRule nodes (Strike user items) = ⊤
-HasRule nodes call = nodes ≡ 1
 
 -- the entries of the book for what the call is to delete
 abbrev pub strikes_of_call : NodeCall → List BookEntry

@@ -1,7 +1,6 @@
 -- Letters in flight as a list in order of number, and what becomes of letters that are put in flight.
 use Rattle.std.specs.Prelude.{◌≡◌, ℕ, ◌+◌, ◌≤◌, ◌<◌, ◌^◌, List, [], ◌∷◌, ◌++◌, length, ⊤, Option, Some, None, slice_get, if◌then◌else◌}
 use Rattle.object_model.specs.Letters.{Letter}
-use Rattle.node_core.specs.Weights.{weight_of}
 use Rattle.cluster_model.specs.Room.{Flight, octets_flying, has_room}
 use Rattle.cluster_model.specs.Steps.{letter_at}
 use Rattle.cluster_model.specs.Plain.{without_letter}
@@ -90,8 +89,3 @@ pub record HasAt (flights : List Flight) (number k : ℕ) : Type 0 where
 abbrev pub first_number : List Flight → Option ℕ
 first_number [] = None
 first_number (flight ∷ flying) = Some flight.number
-
--- how much there is left to be done on account of the letters in flight
-abbrev pub weight_of_flights : List Flight → ℕ
-weight_of_flights [] = 0
-weight_of_flights (flight ∷ flights) = weight_of flight.letter + weight_of_flights flights

@@ -16,9 +16,12 @@ use Rattle.cluster_model.specs.Room.{Flight}
 use Rattle.cluster_model.specs.Progress.{ask_of}
 use Rattle.cluster_model.specs.Progress.Ask.{Pending}
 use Rattle.cluster_model.specs.StepLaws.{HasCopyIn}
+use Rattle.login_model.specs.Progress.{ask_read}
+use Rattle.login_model.specs.Progress.ReadAsk.{Pending as ReadPending}
+use Rattle.login_model.specs.Readings.{ReadTicket}
 use Rattle.node_store.specs.Disks.{View}
 use Rattle.cluster_world.specs.Worlds.{state_of, book_of, life_of, disk_of_node}
-use Rattle.cluster_world.specs.Telling.{standing_in}
+use Rattle.cluster_world.specs.Telling.{standing_in, reading_in}
 use Rattle.cluster_world.specs.Ended.{IsEnded}
 use Rattle.cluster_world.specs.Steps.{IsStep, StepIsKnown}
 use Rattle.cluster_world.specs.Opens.{IsAtBeginning}
@@ -36,11 +39,18 @@ pub record WasDriven {D : Type 0} (on : View D) (plan : Plan) (lines : List (Lis
   pub makes : Makes on outcomes [] start left last
   pub sessions : AreOfSessions lines outcomes
 
--- A ticket that the world would answer as pending has a letter of its own in flight.
+-- a letter of the ticket is in flight
+abbrev pub HasLetter : {D : Type 0} → World D → Number → Type 0
+HasLetter world number = (flight : Flight) × Among flight (state_of world).flying.flights × (flight.letter.ticket ≡ Some number)
+
+-- A ticket that the world would answer as pending has a letter of its own in flight, be it one of messages or one of a call that reads.
+pub record AllHaveLetters {D : Type 0} (confirm : ℕ) (world : World D) : Type 0 where
+  pub mails : (number : Number) (ticket : plain.Ticket) → standing_in world number ≡ Some ticket → (got wanted : ℕ) → ask_of confirm ticket ≡ Pending got wanted → HasLetter world number
+  pub reads : (number : Number) (ticket : ReadTicket) → reading_in world number ≡ Some ticket → (got wanted : ℕ) → ask_read ticket ticket.reading ≡ ReadPending got wanted → HasLetter world number
+
 abbrev pub PendingHasLetter : {D : Type 0} → View D → Type 0
 PendingHasLetter {D} on = (plan : Plan) (lines : List (List ℕ)) (outcomes : List Outcome) (left : List Awaited) (start last : World D) → WasDriven on plan lines outcomes left start last
-    → (number : Number) (ticket : plain.Ticket) → standing_in last number ≡ Some ticket → (got wanted : ℕ) → ask_of plan.confirm ticket ≡ Pending got wanted
-    → (flight : Flight) × Among flight (state_of last).flying.flights × (flight.letter.ticket ≡ Some number)
+    → AllHaveLetters plan.confirm last
 
 -- the octets are a journal of the node, of records that have this
 abbrev pub IsJournalWith : ℕ → (List Record → Type 0) → List ℕ → Type 0

@@ -8,6 +8,7 @@ use Rattle.cluster_model.specs.Cluster as plain
 use Rattle.cluster_model.specs.World.{missed}
 use Rattle.node_store.specs.Disks.{View}
 use Rattle.cluster_world.specs.Lives.{of_node, all_falls_left, CanWorkOn}
+use Rattle.cluster_world.specs.Keeping.{HasSameReads}
 use Rattle.cluster_world.specs.Stands.{SlotsStand}
 use Rattle.cluster_world.specs.Worlds.{seen_life}
 use Rattle.object_model.specs.Mishaps.MishapKind.{Crowded}
@@ -26,6 +27,7 @@ pub record OnlyTickets {D : Type 0} (on : View D) (change : List plain.Slot → 
   pub disks : new.disks.items ≡ old.disks.items
   pub lives : (n : ℕ) → seen_life (of_node new.lives.items n) ≡ seen_life (of_node old.lives.items n)
   pub maps : (n : ℕ) (a b : WholeNode) → of_node old.lives.items n ≡ Some (Up a) → of_node new.lives.items n ≡ Some (Up b) → b.maps ≡ a.maps
+  pub beside : (n : ℕ) (a b : WholeNode) → of_node old.lives.items n ≡ Some (Up a) → of_node new.lives.items n ≡ Some (Up b) → HasSameReads a b
   pub falls : all_falls_left new.lives.items ≡ all_falls_left old.lives.items
   pub slots : (slots : List plain.Slot) → SlotsStand on old.lives.items old.disks.items slots → SlotsStand on new.lives.items new.disks.items (change slots)
 

@@ -3,15 +3,14 @@ use Rattle.std.specs.Prelude.{◌≡◌, ℕ, suc, ◌+◌, ◌≤◌, List, [],
 use Rattle.io_edge.specs.Causes.{Rose}
 use Rattle.io_edge.specs.Octets.{IsToldAlike}
 use Rattle.mail_model.specs.Plan.{Plan}
-use Rattle.cluster_model.specs.WorldLaws.{opening_world}
 use Rattle.node_store.specs.Disks.{View}
 use Rattle.whole_node.specs.declared.node.WholeNode.{WholeNode}
-use Rattle.whole_world.specs.First.{first_world}
+use Rattle.joint_world.specs.First.{first_world}
 use Rattle.whole_node.specs.Starting.{first_map, IsFirstWhole}
 use Rattle.cluster_world.specs.Lives.{of_node}
-use Rattle.cluster_world.specs.Worlds.{state_of, plan_of, lives_of, disks_of, steps_of, CanMakeSteps, StandsFor}
+use Rattle.cluster_world.specs.Worlds.{state_of, plan_of, lives_of, disks_of, steps_of, CanMakeSteps}
 use Rattle.cluster_world.specs.Installs.{installs_of}
-use Rattle.cluster_world.specs.Maps.{AreMaps}
+use Rattle.cluster_world.specs.Maps.{StandsForAll}
 use Rattle.cluster_world.specs.Steps.{AreSettled}
 use Rattle.cluster_world.specs.declared.life.Life.{Life}
 use Rattle.cluster_world.specs.declared.life.Life.TheVariants.{Up}
@@ -40,9 +39,9 @@ pub record AreHandedOn {D : Type 0} (seen : D → Option (List ℕ)) (old new : 
 -- The world is where a cluster begins: each node is up in its first boot and in the first epoch, which its disk promised, nothing has been done, and the book has no epoch that was installed.
 pub record IsAtBeginning {D : Type 0} (on : View D) (plan : Plan) (world : World D) : Type 0 where
   pub plan_is : plan_of world ≡ plan
+  pub some : 1 ≤ plan.nodes
   pub steps : steps_of world ≡ 0
-  pub stands : StandsFor on world (opening_world plan.nodes (first_map plan))
-  pub maps : AreMaps (lives_of world) (first_world plan.nodes (first_map plan)).slots
+  pub stands : StandsForAll on (state_of world) (first_world plan.nodes (first_map plan))
   pub ready : CanMakeSteps on.seen world
   pub installs : installs_of world ≡ []
 

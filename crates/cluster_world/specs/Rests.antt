@@ -11,12 +11,14 @@ use Rattle.maps_model.specs.Laws.{named}
 use Rattle.whole_model.specs.Whole as whole
 use Rattle.whole_world.specs.World as whole_world
 use Rattle.whole_world.specs.Settled.{fragments, SaysIt}
+use Rattle.joint_world.specs.World as joint_world
+use Rattle.joint_world.specs.World.{whole_world_of}
 use Rattle.node_store.specs.Disks.{View}
 use Rattle.node_maps.specs.Nodes.{node_of}
 use Rattle.whole_node.specs.declared.node.WholeNode.{WholeNode}
 use Rattle.cluster_world.specs.Lasting.{WasDriven}
 use Rattle.cluster_world.specs.Lives.{of_node}
-use Rattle.cluster_world.specs.Maps.{StandsForWhole}
+use Rattle.cluster_world.specs.Maps.{StandsForAll}
 use Rattle.cluster_world.specs.Opens.{IsAtBeginning}
 use Rattle.cluster_world.specs.Made.{StepMade}
 use Rattle.cluster_world.specs.Outcomes.{Outcome, Awaited}
@@ -55,13 +57,13 @@ module _ {D : Type 0} (on : View D) where
 
   -- Maps are right: so it is of each user, and members that are targets of a state say it alike.
   pub record HasRightMaps (state : WorldState D) : Type 0 where
-    pub v : whole_world.World
-    pub stands : StandsForWhole on state v
+    pub v : joint_world.World
+    pub stands : StandsForAll on state v
     pub membership : Membership
     pub latest : latest_in state.lives ≡ Some membership
-    pub users : (user : List ℕ) → IsManagedRight state v membership user
-    pub agree : (a b : Member) → Among a membership.members → Among b membership.members → (slot : whole.Slot) → whole.slot_at v.slots a.node ≡ Some slot
-        → (key : Key) (said : State) → said_of key slot.disk ≡ Some said → has said.targets b.node ≡ true → SaysIt v b.node key said
+    pub users : (user : List ℕ) → IsManagedRight state (whole_world_of v) membership user
+    pub agree : (a b : Member) → Among a membership.members → Among b membership.members → (slot : whole.Slot) → whole.slot_at (whole_world_of v).slots a.node ≡ Some slot
+        → (key : Key) (said : State) → said_of key slot.disk ≡ Some said → has said.targets b.node ≡ true → SaysIt (whole_world_of v) b.node key said
 
 -- A world that stands for a sound one and is at rest has right maps,
 abbrev pub RestsRight : {D : Type 0} → View D → Type 0

@@ -3,10 +3,13 @@ use Rattle.std.specs.Prelude.{◌≡◌, ◌≤◌, ℕ, List, [], ◌∷◌, If
 use Rattle.io_edge.specs.Octets.{IsToldAlike}
 use Rattle.mail_model.specs.Plan.{Plan}
 use Rattle.cluster_model.specs.Steps.{greatest_boot}
+use Rattle.joint_model.specs.Joint as joint
+use Rattle.joint_world.specs.Staying.{KeepsReads}
 use Rattle.node_store.specs.Disks.{View}
 use Rattle.node_core.specs.Nodes.{node_seen}
 use Rattle.node_core.specs.Starting.{NodeStarts}
 use Rattle.node_core.specs.declared.fault.NodeFault.{NodeFault}
+use Rattle.whole_node.specs.Nodes.{joint_seen}
 use Rattle.whole_node.specs.Restarting.{WholeNodeStarted}
 use Rattle.whole_node.specs.declared.node.WholeNode.{WholeNode}
 use Rattle.world_book.specs.declared.entry.Entry.{Entry}
@@ -28,11 +31,12 @@ abbrev pub entries_of_start : ℕ → Result ℕ NodeFault → List Entry
 entries_of_start n (Ok boot) = entry.Up n boot ∷ []
 entries_of_start n (Err why) = entries_of_fault n why
 
--- a node is up in this boot
+-- a node is up in this boot, with no tickets of calls that read and no locks
 pub record IsUpIn (boot : ℕ) (node : WholeNode) (life : Life) : Type 0 where
   pub is : life ≡ Up node
   pub boot_is : boot ≡ (node_seen node.mail).boot
   pub small : boot ≤ greatest_boot
+  pub fresh : KeepsReads (joint.Life.Down []) (joint_seen node)
 
 module _ {D : Type 0} (on : View D) (plan : Plan) (n : ℕ) where
   -- the node is up, or still down

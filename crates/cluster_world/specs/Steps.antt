@@ -1,16 +1,22 @@
 -- What is known of each step of a world.
-use Rattle.std.specs.Prelude.{◌≡◌, ◌≢◌, ◌⊎◌, ℕ, ◌≤◌, ◌<◌, Bool, true, false, List, length, Option, Some, None, ⊤, IfOk, Result, Ok, Err}
+use Rattle.std.specs.Prelude.{◌≡◌, ◌≢◌, ◌⊎◌, ℕ, ◌≤◌, Bool, true, false, List, length, Option, Some, None, ⊤, IfOk, Result, Ok, Err}
 use Rattle.io_edge.specs.Causes.{Rose}
 use Rattle.io_edge.specs.Octets.{IsToldAlike}
 use Rattle.cluster_model.specs.Cluster as plain
 use Rattle.cluster_model.specs.Cluster.{slot_at}
 use Rattle.cluster_model.specs.World as machine
 use Rattle.cluster_model.specs.Makes.{MakesStep}
+use Rattle.cluster_model.specs.Room.{Flight}
+use Rattle.cluster_model.specs.Steps.{letter_at}
 use Rattle.mail_model.specs.Plan.{Plan}
 use Rattle.whole_world.specs.World as whole_world
 use Rattle.whole_world.specs.World.{mail_world_of}
 use Rattle.whole_world.specs.Laws.{Stands}
 use Rattle.whole_world.specs.Makes as whole_makes
+use Rattle.joint_world.specs.World as joint_world
+use Rattle.joint_world.specs.Laws as joint_laws
+use Rattle.joint_world.specs.Makes as joint_makes
+use Rattle.login_model.specs.Cluster as login
 use Rattle.node_store.specs.Disks.{View}
 use Rattle.node_core.specs.Works.{IsOnlyRead}
 use Rattle.call_tickets.specs.declared.call.Call.{Call}
@@ -18,11 +24,12 @@ use Rattle.call_tickets.specs.declared.call.Call.TheVariants.{Fetch, Leave}
 use Rattle.session_model.specs.Events.{NodeLife}
 use Rattle.session_model.specs.Events.NodeLife.{Up}
 use Rattle.cluster_world.specs.Books.{IsLongerBook}
-use Rattle.cluster_world.specs.Flights.{weight_of_flights}
+use Rattle.cluster_world.specs.Flights.{AreAbove, first_number}
+use Rattle.cluster_world.specs.Readers.{reader_of}
 use Rattle.cluster_world.specs.Installs.{BooksInstalls}
-use Rattle.cluster_world.specs.Worlds.{WorldState, state_of, life_in, node_in, disk_in, tells_in, steps_of, one_more, StateStandsFor}
+use Rattle.cluster_world.specs.Worlds.{WorldState, state_of, life_in, memory_in, disk_in, tells_in, steps_of, one_more, StateStandsFor}
 use Rattle.cluster_world.specs.Seen.{step_seen, outcome_seen, whole_step, whole_outcome}
-use Rattle.cluster_world.specs.Maps.{AreMaps}
+use Rattle.cluster_world.specs.Maps.{AreMaps, StandsForAll}
 use Rattle.cluster_world.specs.Ended.{IsEnded}
 use Rattle.cluster_world.specs.Turns.{node_refusal, refused_for_node, life_after_step, seconds_after_step}
 use Rattle.cluster_world.specs.Moments.{StopsKeep}
@@ -50,21 +57,28 @@ pub record EveryStopKeeps {D : Type 0} (on : View D) (old new : WorldState D) (b
   pub each : (n : ℕ) (disk disk' : D) (slot slot' : plain.Slot) → disk_in old n ≡ Some disk → disk_in new n ≡ Some disk' → slot_at before n ≡ Some slot → slot_at after n ≡ Some slot' → slot.life ≢ plain.Life.Lost
       → StopsKeep on n disk disk' slot slot'
 
--- As the whole machine has it: the step leads to a world that messages see as this next one, and that has the maps of these nodes.
+-- What steps show that are none of calls that read. As the whole machine has it: the step leads to a world that messages see as this next one, and that has the maps of these nodes.
 pub record LeadsWhole (plan : Plan) (tells : Bool) (result : Result Said StepFault) (step : Step) (lives : List Life) (v : whole_world.World) (next : machine.World) : Type 0 where
   pub now : whole_world.World
   pub seen : mail_world_of now ≡ next
   pub maps : AreMaps lives now.slots
   pub made : whole_makes.MakesStep plan tells v (whole_step step) (whole_outcome result) now
 
--- The step leads from a world of the machine to one for which the new world stands. So it does from each sound world of the whole machine that messages see so, and that has the maps of the
--- nodes: to one that they see as the very same next.
-pub record LeadsTo {D : Type 0} (on : View D) (result : Result Said StepFault) (step : Step) (old new : WorldState D) (w : machine.World) : Type 0 where
+-- As messages have it: it leads from a world of theirs to one for which the new world stands. So it does from each sound world of the whole machine that messages see so, and that has the maps
+-- of the nodes: to one that they see as the very same next.
+pub record LeadsMail {D : Type 0} (on : View D) (result : Result Said StepFault) (step : Step) (old new : WorldState D) (w : machine.World) : Type 0 where
   pub next : machine.World
   pub stands : StateStandsFor on new next
   pub made : MakesStep old.plan (tells_in on.seen old) w (step_seen step) (outcome_seen result) next
   pub stops : EveryStopKeeps on old new w.slots next.slots
   pub whole : (v : whole_world.World) → mail_world_of v ≡ w → Stands old.plan v → AreMaps old.lives v.slots → LeadsWhole old.plan (tells_in on.seen old) result step new.lives v next
+
+-- The step leads from a world with all that nodes keep to one for which the new world stands.
+pub record LeadsTo {D : Type 0} (on : View D) (result : Result Said StepFault) (step : Step) (old new : WorldState D) (v : joint_world.World) : Type 0 where
+  pub next : joint_world.World
+  pub stands : StandsForAll on new next
+  pub made : joint_makes.MakesStep old.plan (tells_in on.seen old) v (whole_step step) (whole_outcome result) next
+  pub stops : EveryStopKeeps on old new (joint_world.mail_world_of v).slots (joint_world.mail_world_of next).slots
 
 -- whether each disk tells what it holds has not changed
 pub record AreToldAlike {D : Type 0} (seen : D → Option (List ℕ)) (old new : WorldState D) : Type 0 where
@@ -81,27 +95,27 @@ MayReadAmiss (Fetch user id holders from most) = ⊤
 MayReadAmiss call = ⊥
 
 -- the step starts the node, or reads octets
-abbrev pub MayMisread : Step → Type 0
-MayMisread (Begin node call) = MayReadAmiss call
-MayMisread (Ask ticket) = ⊥
-MayMisread (GiveUp ticket) = ⊥
-MayMisread (Post letter keep) = ⊥
-MayMisread (Drop letter) = ⊥
-MayMisread (Push from to) = ⊤
-MayMisread (Widen at user id to) = ⊥
-MayMisread (Group node) = ⊥
-MayMisread (Conclude node) = ⊥
-MayMisread (Report from to) = ⊥
-MayMisread (Crash node) = ⊥
-MayMisread (Start node) = ⊤
-MayMisread (Lose node) = ⊥
-MayMisread (Tick seconds) = ⊥
+abbrev pub MayMisread : List Flight → Step → Type 0
+MayMisread flights (Begin node call) = MayReadAmiss call
+MayMisread flights (Ask ticket) = ⊥
+MayMisread flights (GiveUp ticket) = ⊥
+MayMisread flights (Post letter keep) = (node : ℕ) × (reader_of (letter_at letter flights) ≡ Some node)
+MayMisread flights (Drop letter) = ⊥
+MayMisread flights (Push from to) = ⊤
+MayMisread flights (Widen at user id to) = ⊥
+MayMisread flights (Group node) = ⊥
+MayMisread flights (Conclude node) = ⊥
+MayMisread flights (Report from to) = ⊥
+MayMisread flights (Crash node) = ⊥
+MayMisread flights (Start node) = ⊤
+MayMisread flights (Lose node) = ⊥
+MayMisread flights (Tick seconds) = ⊥
 
 -- That a disk failed is said only where its count rose, or where it does not tell what it holds and was read. The octets of a disk that tells them are those of its node's
 -- records, as long as the world stands for one of the machine.
 abbrev pub FaultHasCause : {D : Type 0} → View D → Result Said StepFault → Step → WorldState D → WorldState D → Type 0
 FaultHasCause on (Ok (Faulted n)) step old new = (disk disk' : _) → disk_in old n ≡ Some disk → disk_in new n ≡ Some disk'
-    → Rose (on.faults disk) (on.faults disk') ⊎ ((on.seen disk ≡ None) × MayMisread step)
+    → Rose (on.faults disk) (on.faults disk') ⊎ ((on.seen disk ≡ None) × MayMisread old.flying.flights step)
 FaultHasCause on result step old new = ⊤
 
 -- the disk of each node that is up is settled
@@ -157,23 +171,24 @@ FallsSo (Ok (Faulted n)) nodes step lives = WasToWork nodes step (lives n) n
 FallsSo (Err (NoMemory (Some n))) nodes step lives = WasToWork nodes step (lives n) n
 FallsSo result nodes step lives = ⊤
 
--- A letter that was posted and does not stay in flight leaves less to be done there.
-abbrev pub IsLighter : {D : Type 0} → Result Said StepFault → Step → WorldState D → WorldState D → Type 0
-IsLighter (Ok said) (Post letter false) old new = weight_of_flights new.flying.flights < weight_of_flights old.flying.flights
-IsLighter result step old new = ⊤
+-- Where the letter of the lowest number was posted and does not stay in flight, all others have higher numbers, and so has what was sent.
+abbrev pub HasPassed : {D : Type 0} → Result Said StepFault → Step → WorldState D → WorldState D → Type 0
+HasPassed (Ok said) (Post letter false) old new = first_number old.flying.flights ≡ Some letter → AreAbove letter new.flying.flights
+HasPassed result step old new = ⊤
 
 -- the node whose disk the step may read before it is refused
-abbrev pub reader_in : Step → Option ℕ
-reader_in (Begin node call) = Some node
-reader_in (Push from to) = Some from
-reader_in (Start node) = Some node
-reader_in step = None
+abbrev pub reader_in : List Flight → Step → Option ℕ
+reader_in flights (Begin node call) = Some node
+reader_in flights (Post letter keep) = reader_of (letter_at letter flights)
+reader_in flights (Push from to) = Some from
+reader_in flights (Start node) = Some node
+reader_in flights step = None
 
--- Nothing was changed: no node in what it has in memory for messages, no disk, no letter in flight, no second and no entry of the book. A disk may have been read, that of one node; a
--- start reads all of it again, and what it may then hold is said by the machine. That its maps are still those of the world is said by LeadsWhole.
+-- Nothing was changed: no node in what it has in memory, no disk, no letter in flight, no second and no entry of the book. A disk may have been read, that of one node; a start reads all of
+-- it again, and what it may then hold is said by the machine.
 pub record IsUnchanged {D : Type 0} (on : View D) (step : Step) (old new : WorldState D) : Type 0 where
-  pub nodes : (n : ℕ) → node_in new n ≡ node_in old n
-  pub disks : (n : ℕ) (disk disk' : D) → disk_in old n ≡ Some disk → disk_in new n ≡ Some disk' → (reader_in step ≡ Some n → ⊥) → disk' ≡ disk
+  pub nodes : (n : ℕ) → memory_in new n ≡ memory_in old n
+  pub disks : (n : ℕ) (disk disk' : D) → disk_in old n ≡ Some disk → disk_in new n ≡ Some disk' → (reader_in old.flying.flights step ≡ Some n → ⊥) → disk' ≡ disk
   pub reads : (n : ℕ) (disk disk' : D) → disk_in old n ≡ Some disk → disk_in new n ≡ Some disk' → ((node : ℕ) → step ≡ Start node → ⊥)
       → IsOnlyRead on disk disk' × (on.faults disk' ≡ on.faults disk)
   pub flying : new.flying ≡ old.flying
@@ -197,10 +212,11 @@ pub record StepDid {D : Type 0} (on : View D) (result : Result Said StepFault) (
   pub clock : new.seconds ≡ seconds_after_step step result old.seconds
   pub told : AreToldAlike on.seen old new
   pub quiet : IsQuiet on.faults old new
-  pub lighter : IsLighter result step old new
+  pub passed : HasPassed result step old new
   pub books : IsLongerBook old.book new.book
   pub kept : ChangesNothing on result step old new
-  pub leads : StepIsKnown on.seen old step → IsEnded step → (w : machine.World) → StateStandsFor on old w → LeadsTo on result step old new w
+  pub leads : StepIsKnown on.seen old step → IsEnded step → (story : List (List login.Slot)) (v : joint_world.World) → StandsForAll on old v → joint_laws.Stands old.plan (tells_in on.seen old) story v
+      → LeadsTo on result step old new v
   pub cause : (w : machine.World) → StateStandsFor on old w → FaultHasCause on result step old new
 
 -- What is known of a step: what it did, that the book has the epoch that was installed in it, and that it was counted.

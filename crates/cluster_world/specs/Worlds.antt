@@ -6,8 +6,10 @@ use Rattle.mail_model.specs.Book.{BookEntry}
 use Rattle.session_model.specs.Events.{NodeLife, NodeLife as life}
 use Rattle.cluster_model.specs.Cluster as plain
 use Rattle.cluster_model.specs.World as machine
+use Rattle.joint_model.specs.Joint as joint
 use Rattle.node_store.specs.Disks.{View}
 use Rattle.node_core.specs.Nodes.{node_seen}
+use Rattle.whole_node.specs.Nodes.{joint_seen}
 use Rattle.cluster_world.specs.Books.{booked_by}
 use Rattle.cluster_world.specs.Flights.{InFlight}
 use Rattle.cluster_world.specs.Lives.{life_seen, of_node, CanWorkOn}
@@ -58,6 +60,14 @@ node_of_life life = None
 
 abbrev pub node_in : {D : Type 0} → WorldState D → ℕ → Option plain.Node
 node_in state n = node_of_life (of_node state.lives n)
+
+-- all that it has in memory: for messages, its maps, its tickets of calls that read and its locks
+abbrev pub memory_of_life : Option Life → Option joint.Node
+memory_of_life (Some (Up node)) = Some (joint_seen node)
+memory_of_life life = None
+
+abbrev pub memory_in : {D : Type 0} → WorldState D → ℕ → Option joint.Node
+memory_in state n = memory_of_life (of_node state.lives n)
 
 abbrev pub disk_in : {D : Type 0} → WorldState D → ℕ → Option D
 disk_in state n = of_node state.disks n

@@ -1,5 +1,5 @@
 //! The letters in flight, in order of number.
-ghost use Rattle.std.specs.Prelude.{nat_le, ◌≡◌, ◌+◌, ◌≤◌, ◌<◌, ◌++◌, ◌∷◌, [], IfOk, IfSome, OnErr, MatchOption, None, Some, length, ◌^◌, vec_len, vec_capacity};
+ghost use Rattle.std.specs.Prelude.{nat_le, ◌≡◌, ◌+◌, ◌≤◌, ◌<◌, ◌++◌, ◌∷◌, [], IfOk, IfSome, is_some, true, OnErr, MatchOption, None, Some, length, ◌^◌, vec_len, vec_capacity};
 ghost use Rattle.std.specs.Option.{option_copied};
 ghost use Rattle.std.specs.VecDeque.{deque_len, deque_capacity};
 ghost use Rattle.cluster_model.specs.Room.{fits, octets_flying, octets_of};
@@ -7,10 +7,12 @@ ghost use Rattle.cluster_model.specs.Steps.{letter_at, letters_end};
 ghost use Rattle.cluster_model.specs.Plain.{without_letter};
 ghost use Rattle.cluster_world.specs.Regroups.{has_room_for_rounds};
 ghost use Rattle.cluster_world.specs.Hears.{CanBeHeard, AllCanBeHeard};
+ghost use Rattle.cluster_world.specs.Reading.{flying_of};
 ghost use Rattle.cluster_world.specs.Flights.{NumbersRise, AreInOrder, FlightIsCounted, put_one, put_all, put_down, flights_without, taken_out, HasAt, first_number};
 
 use crate::flight::{Flight, octets_of};
 use crate::limits::{LETTERS_END, MOST_LETTERS, MOST_OCTETS};
+use crate::roomy::Roomy;
 use mail_base::Letter;
 use std::alloc::{AllocError, Global};
 use std::collections::VecDeque;
@@ -43,7 +45,7 @@ pub(crate) fn is_worn(sent: u64) -> bool
 }
 
 /// Where the letter of this number is.
-fn place_in(flights: &VecDeque<Flight>, number: u64) -> Option<usize>
+pub(crate) fn place_in(flights: &VecDeque<Flight>, number: u64) -> Option<usize>
     requires rising { NumbersRise flights.now.items }
     ensures place { MatchOption result (letter_at number flights.now.items ≡ None) (λ k. HasAt flights.now.items number k) }
 {
@@ -53,14 +55,14 @@ fn place_in(flights: &VecDeque<Flight>, number: u64) -> Option<usize>
 }
 
 /// Whether a letter finds room beside so many letters of so many octets.
-fn finds_room(letters: usize, octets: u64, letter: &Letter) -> bool
+pub(crate) fn finds_room(letters: usize, octets: u64, letter: &Letter) -> bool
     ensures { result ≡ fits letters octets (octets_of letter.now) }
 {
     letters < MOST_LETTERS && u128::from(octets) + octets_of(letter) <= u128::from(MOST_OCTETS)
 }
 
 /// Takes out the letter of this number, if it is in flight, and says how many octets it had.
-fn take_out(flights: &mut VecDeque<Flight>, number: u64) -> u64
+pub(crate) fn take_out(flights: &mut VecDeque<Flight>, number: u64) -> u64
     requires rising { NumbersRise flights.old.items }
     requires few { octets_flying flights.old.items < 2 ^ 30 }
     ensures items { flights.new.items ≡ without_letter number flights.old.items }
@@ -78,7 +80,7 @@ fn take_out(flights: &mut VecDeque<Flight>, number: u64) -> u64
 }
 
 /// The same of a letter that may be named.
-fn take_out_named(flights: &mut VecDeque<Flight>, posted: Option<u64>) -> u64
+pub(crate) fn take_out_named(flights: &mut VecDeque<Flight>, posted: Option<u64>) -> u64
     requires rising { NumbersRise flights.old.items }
     requires few { octets_flying flights.old.items < 2 ^ 30 }
     ensures items { flights.new.items ≡ flights_without posted flights.old.items }
@@ -93,7 +95,7 @@ fn take_out_named(flights: &mut VecDeque<Flight>, posted: Option<u64>) -> u64
 }
 
 /// Puts a letter behind the others, into room that was made before.
-fn push(flights: &mut VecDeque<Flight>, flight: Flight)
+pub(crate) fn push(flights: &mut VecDeque<Flight>, flight: Flight)
     requires { deque_len flights.old < deque_capacity flights.old }
     ensures items { flights.new.items ≡ flights.old.items ++ flight ∷ [] }
     ensures len { deque_len flights.new ≡ deque_len flights.old + 1 }
@@ -151,6 +153,23 @@ fn put_all(
 {
     for letter in letters {
         put_one(flights, octets, sent, letter, left);
+    }
+}
+
+// The letters, taken out of the world. It takes no memory.
+fn taken(alloc: Global, flights: &mut VecDeque<Flight>, octets: &mut u64, sent: u64) -> Roomy
+    ensures flights { result.flights ≡ flights.old }
+    ensures octets { result.octets ≡ octets.old }
+    ensures sent { result.sent ≡ sent }
+    ensures none { flights.new.items ≡ [] }
+    ensures zero { octets.new ≡ 0 }
+{
+    let flights = std::mem::replace(flights, VecDeque::new(alloc));
+    let octets = std::mem::replace(octets, 0);
+    Roomy {
+        flights,
+        octets,
+        sent,
     }
 }
 
@@ -222,6 +241,44 @@ impl Flying {
         ensures { self.new ≡ taken_out (Some number) self.old }
     {
         self.octets -= take_out(&mut self.flights, number);
+    }
+
+    /// Makes room in memory for so many letters more, and takes the letters out of the world.
+    ///
+    /// # Errors
+    ///
+    /// Out of memory alone, and nothing has changed.
+    pub(crate) fn make_room(&mut self, alloc: Global, letters: usize) -> Result<Roomy, AllocError>
+        ensures taken { IfOk result (λ roomy. flying_of roomy ≡ self.old) }
+        ensures counted { IfOk result (λ roomy. FlightIsCounted roomy.octets roomy.sent roomy.flights.items) }
+        ensures room { IfOk result (λ roomy. deque_len roomy.flights + letters ≤ deque_capacity roomy.flights) }
+        ensures err { OnErr result (self.new ≡ self.old) }
+    {
+        self.flights.reserve(letters)?;
+        Ok(taken(alloc, &mut self.flights, &mut self.octets, self.sent))
+    }
+
+    /// Takes the letter of this number, which is in flight, out of the others, and these out of the world. Its place is room in
+    /// memory for one letter. It takes no memory.
+    pub(crate) fn take_with_place(&mut self, alloc: Global, number: u64) -> Roomy
+        requires { is_some (letter_at number self.old.flights) ≡ true }
+        ensures taken { flying_of result ≡ taken_out (Some number) self.old }
+        ensures counted { FlightIsCounted result.octets result.sent result.flights.items }
+        ensures room { deque_len result.flights < deque_capacity result.flights }
+    {
+        let mut roomy = taken(alloc, &mut self.flights, &mut self.octets, self.sent);
+        roomy.octets -= take_out(&mut roomy.flights, number);
+        roomy
+    }
+
+    /// The letters are back in the world.
+    pub(crate) fn put_back(&mut self, roomy: Roomy)
+        requires { FlightIsCounted roomy.octets roomy.sent roomy.flights.items }
+        ensures { self.new ≡ flying_of roomy }
+    {
+        self.flights = roomy.flights;
+        self.octets = roomy.octets;
+        self.sent = roomy.sent;
     }
 
     /// Takes a letter out of flight, if one is named, and puts these in flight: it gives those that find no room.

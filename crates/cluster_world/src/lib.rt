@@ -5,8 +5,9 @@
 //! A `World` is all that a cluster holds: the nodes of a plan, each with its disk, the letters in flight, and a `Book` of what
 //! was acknowledged. `open` makes one over empty disks, one for each node, in order. `step` makes one step, `run` several,
 //! `flow` posts letters until none is in flight, `regroup` forms an epoch of the nodes that are up, and `settle` brings the
-//! latest epoch to rest. `maps` and `due` tell what the nodes know of users, and what is still due. `close` hands the disks back. `plan`, `book`, `is_up`, `is_lost`, `boot`,
-//! `members`, `kind`, `filing`, `flying`, `seconds` and `sum` tell what the world has, take no memory, and change nothing.
+//! latest epoch to rest. `maps` and `due` tell what the nodes know of users, and what is still due. `close` hands the disks back.
+//! `plan`, `book`, `is_up`, `is_lost`, `boot`, `members`, `kind`, `filing`, `flying`, `seconds` and `sum` tell what the world has,
+//! take no memory, and change nothing.
 //!
 //! DESCRIPTION
 //!
@@ -14,9 +15,9 @@
 //!
 //! | Step | What is done |
 //! |---|---|
-//! | `Begin` | a call begins at a node: what it files or deletes is recorded, its letters are sent, and it has a ticket |
+//! | `Begin` | a call begins at a node: what it files or deletes is recorded, its letters are sent, and it has a ticket, a `Leave` none |
 //! | `Ask` | it is asked what became of a call; one that is done ends, and the book has what was confirmed |
-//! | `GiveUp` | a call is given up: its ticket stands no more |
+//! | `GiveUp` | a call is given up: its ticket stands no more, and a login lets its maildrop go |
 //! | `Post` | a letter is handed to its receiver, and leaves, or is kept in flight to be posted again |
 //! | `Drop` | a letter is taken out of flight |
 //! | `Push` | a node sends what it owes to another: the first 64 states, as far as there is room |
@@ -35,6 +36,11 @@
 //! its receiver down. A mishap is counted at the ticket, where that stands. Letters of membership and maps have no ticket. Each
 //! letter in flight is one that its receiver can hear (`CanBeHeard` in `specs/Hears.antt`).
 //!
+//! Logins, fetches and `Leave`s are calls that read: they begin at any node. A node has their tickets beside those of calls of
+//! messages, and a ticket is looked for among those of messages first. A mishap of such a call may send one letter more, and a
+//! letter that is put in flight may have a mishap, so letters go in flight from a queue: a mishap's letter waits at its end
+//! (`Puts` in `joint_world`). The locks of a node are those of the maildrops that it manages in its epoch.
+//!
 //! The book has an entry for each user's copy that was acknowledged, for each that is to be deleted and for each whose deletion
 //! was confirmed, one wherever a node went down, came up or was lost, and one of each epoch that a node has installed, with the
 //! boot in which it did. A node installs an epoch as it concludes its group, and as it hears an Install. An Install that is thrown
@@ -45,10 +51,12 @@
 //!
 //! PROMISES
 //!
-//! `IsStep` in `specs/Steps.antt` says what each step does, whatever comes of it. A world stands for one of the machine of
-//! `cluster_model`, and a step leads to a world that stands for the machine's next (`LeadsTo`), where the disks tell what they
-//! hold or the step reads none. At each moment of it a stop of the machine leaves of each disk the records that stood, and the
-//! first of those that were added (`EveryStopKeeps`). A disk that was settled stays so as long as its node is up.
+//! `IsStep` in `specs/Steps.antt` says what each step does, whatever comes of it. A world stands for one of `joint_world`, with
+//! its messages, its maps, its tickets and its locks (`StandsForAll` in `specs/Maps.antt`), and a step leads to a world that stands
+//! for the machine's next (`LeadsTo`), where the disks tell what they hold or the step reads none. It is the very same step of the
+//! whole machine without calls that read (the law `whole_sees` of `joint_world`), and of the machine of messages. At each moment
+//! of it a stop of the machine leaves of each disk the records that stood, and the first of those that were added
+//! (`EveryStopKeeps`). A disk that was settled stays so as long as its node is up.
 //!
 //! `BooksInstalls` in `specs/Installs.antt` says of each step which epoch the book has of it: that of the node that concluded its
 //! group, or heard an Install, where that node is up and has another epoch than before; and no other.
@@ -57,10 +65,9 @@
 //! whatever the order of its calls and whatever becomes of letters and nodes, the law `world_owes` says what the cluster owes of
 //! the calls that it was asked and of those that it answered, and that it has it.
 //!
-//! A node that is up is a whole one, with its maps. Of each world of `whole_world` that the old world stands for, a step leads to
-//! one that `MakesStep` of `whole_world` allows, and the new world stands for it (`LeadsWhole` in `specs/Steps.antt`). So a world
-//! that was driven stands for a sound world of the whole machine (the law `world_is_whole`), and all memberships of one epoch
-//! that its nodes have installed, or that are on their way, are equal (`one_map_per_epoch`).
+//! A node that is up is a whole one, with its maps, its tickets and its locks. A world that was driven stands for a sound world of
+//! `joint_world` (the law `world_is_whole`), and all memberships of one epoch that its nodes have installed, or that are on their
+//! way, are equal (`one_map_per_epoch`).
 //!
 //! `HasRegrouped` in `specs/Regroups.antt` says which steps a regroup makes, in which order, and with which it stops. Where it
 //! formed an epoch in a world that stands for a sound one of the whole machine, just the nodes that were up are its members, each
@@ -77,10 +84,11 @@
 //!
 //! A step that is refused says the first of these that applies:
 //!
-//! - `NoSuchNode`: the plan has no node of a number that the step names. The node in an id is not meant.
+//! - `NoSuchNode`: the plan has no node of a number that the step names, be it the manager in a `Leave`. The node in an id is not
+//!   meant.
 //! - `NodeLost`, `NodeDown`, `NodeUp`: the node that is to act, to stop, to start or to be lost is not as the step needs it.
 //! - `NoSuchLetter`: the letter is not in flight.
-//! - `NoSuchTicket`: the ticket does not stand.
+//! - `NoSuchTicket`: the ticket stands neither among those of calls of messages nor among those of calls that read.
 //! - `NotAGroup`: the node has no group open that it could conclude.
 //! - `Worn`: a number that the step needs is used up. No letter is sent from the number 2^64 - 2^32 on.
 //! - `NoRoom`: letters or rows are due, and not even the first finds room; of a group or its conclusion, not all of them do. A
@@ -100,23 +108,28 @@
 //! The costs on a disk are those of the node's calls in `node_core`; a step touches the disk of one node at most. A letter is
 //! found by its number in a time that grows with the logarithm of how many are in flight, and one that leaves from the middle
 //! moves those on its shorter side. Room in the book is made before the entries that need it, for all nodes that may still go
-//! down or be lost, so `Crash`, `Lose` and `Drop` take no memory; nor does `Tick`. For the entry of an epoch it is made before a
-//! node concludes its group, and before an Install is heard.
+//! down or be lost, so `Crash` and `Lose` take no memory; nor does `Tick`. A `Drop` is never refused for want of it, an `Ask` only
+//! where it ends its call, and a `GiveUp` only where the call reads: room for the letter that it may send is made first
+//! (`IsSurelyDone` in `specs/Sure.antt`). For the entry of an epoch room is made before a node concludes its group, and before an
+//! Install is heard.
 //!
 //! STANDS ON
 //!
 //! `node_core` for what a node does and `whole_node` for the node that does it, with its maps, `node_tickets` and `call_tickets`
-//! for tickets and answers, `world_book` for the book, `io_edge` for disks, `mail_base` for plans, letters and ids; the machine is
-//! that of `cluster_model`, and what a cluster owes is said in `cluster_owes` and `session_model`.
+//! for tickets and answers, `node_reads` and `drop_lock` for calls that read, `world_book` for the book, `io_edge` for disks,
+//! `mail_base` for plans, letters and ids; the machine is that of `joint_world`, which has those of `whole_world` and
+//! `cluster_model` in it, and what a cluster owes is said in `cluster_owes` and `session_model`.
 //!
 //! WHAT IT DOES NOT DO
 //!
 //! Its clock stands still between two ticks, and shows 0 before the first. It sends nothing by itself, tries nothing again, and
-//! starts no node that is down. In a plan of several nodes the calls of a POP3 session are not begun yet.
+//! starts no node that is down.
 #![tactic(auto)]
 
+mod befalling;
 mod entries;
 mod fault;
+mod filling;
 mod flight;
 mod flying;
 mod installing;
@@ -126,9 +139,12 @@ mod limits;
 mod mishaps;
 mod nodes;
 mod opening;
+mod queue;
+mod reading;
 mod refusal;
 mod regrouping;
 mod resting;
+mod roomy;
 mod running;
 mod sending;
 mod settling;

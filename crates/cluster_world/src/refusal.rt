@@ -1,7 +1,8 @@
 //! Why a step is refused for the sake of a node that it names.
 ghost use Rattle.std.specs.Prelude.{◌≡◌};
 ghost use Rattle.std.specs.List.{list_all};
-ghost use Rattle.cluster_model.specs.Steps.{actor_of, is_node};
+ghost use Rattle.cluster_model.specs.Steps.{actor_of, is_node, nodes_of_call};
+ghost use Rattle.node_core.specs.Beginning.{call_seen};
 ghost use Rattle.cluster_world.specs.Seen.{step_seen};
 ghost use Rattle.cluster_world.specs.Lives.{life_seen};
 ghost use Rattle.cluster_world.specs.Worlds.{life_among};
@@ -11,6 +12,7 @@ use crate::fault::StepFault;
 use crate::life::Life;
 use crate::nodes::Nodes;
 use crate::step::Step;
+use call_tickets::Call;
 use mail_base::NodeNo;
 
 /// What is wrong with the life of the node that is to act.
@@ -55,12 +57,23 @@ impl<D> Nodes<D> {
         usize::from(node.number()) <= self.lives.len()
     }
 
+    // the node that a call names beside its own
+    fn has_named_by(&self, call: &Call) -> bool
+        ensures { result ≡ list_all (is_node self.now.plan) (nodes_of_call (call_seen call.now)) }
+    {
+        match call {
+            Call::Leave { manager, .. } => self.has(*manager),
+            Call::Deliver(_) | Call::Login { .. } | Call::Fetch { .. } | Call::Strike { .. } =>
+                true,
+        }
+    }
+
     fn has_named(&self, step: &Step) -> bool
         ensures { result ≡ list_all (is_node self.now.plan) (nodes_of_step step.now) }
     {
         match step {
-            Step::Begin { node, .. }
-            | Step::Group { node }
+            Step::Begin { node, call } => self.has(*node) && self.has_named_by(call),
+            Step::Group { node }
             | Step::Conclude { node }
             | Step::Crash { node }
             | Step::Start { node }

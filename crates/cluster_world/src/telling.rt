@@ -3,12 +3,13 @@ ghost use Rattle.std.specs.Prelude.{◌≡◌, Some};
 ghost use Rattle.std.specs.Option.{option_copied};
 ghost use Rattle.session_model.specs.Sums.{sum_of};
 ghost use Rattle.node_core.specs.Nodes.{IsWhole};
+ghost use Rattle.whole_node.specs.Nodes.{HasReads};
 ghost use Rattle.whole_node.specs.declared.node.WholeNode.{WholeNode as AWholeNode};
-ghost use Rattle.node_tickets.specs.Standing.{call_kind_seen, kind_of_ticket, filed_seen, filing_at};
+ghost use Rattle.node_tickets.specs.Standing.{call_kind_seen, filed_seen, filing_at};
 ghost use Rattle.cluster_world.specs.Flights.{first_number};
 ghost use Rattle.cluster_world.specs.Sums.{sum_seen};
 ghost use Rattle.cluster_world.specs.Worlds.{state_of, book_of, node_of_life, node_in, CanMakeSteps};
-ghost use Rattle.cluster_world.specs.Telling.{members_seen, standing_on, standing_in};
+ghost use Rattle.cluster_world.specs.Telling.{members_seen, standing_on, standing_in, kind_on, kind_standing};
 ghost use Rattle.cluster_world.specs.declared.life.Life.TheVariants as lives;
 
 use crate::life::Life;
@@ -17,6 +18,7 @@ use crate::sum::{BookSum, sum};
 use crate::world::World;
 use io_edge::Disk;
 use mail_base::{CallKind, Filing, NodeNo, NodeSet, Ticket};
+use whole_node::WholeNode;
 
 /// The members of a node's epoch.
 pub(crate) fn members_at(life: &Life) -> NodeSet
@@ -29,13 +31,25 @@ pub(crate) fn members_at(life: &Life) -> NodeSet
     }
 }
 
+// The kind of the call of a ticket that stands at a node, among those of messages or among those of calls that read.
+fn kind_in(node: &WholeNode, ticket: &Ticket) -> Option<CallKind>
+    requires reads { HasReads node.now }
+    requires own { node.now.mail.store.own ≡ ticket.now.node }
+    ensures { call_kind_seen result ≡ kind_on (Some (lives.Up node.now)) ticket.now }
+{
+    match node.mail().kind(ticket_of(ticket)) {
+        Some(kind) => Some(kind),
+        None => node.reads().kind(ticket_of(ticket)),
+    }
+}
+
 /// The kind of the call of the ticket at a node, if it stands there.
 fn kind_at(life: &Life, ticket: &Ticket) -> Option<CallKind>
-    requires whole { (node : AWholeNode) → life.now ≡ lives.Up node → IsWhole node.mail }
-    ensures { call_kind_seen result ≡ kind_of_ticket (standing_on (Some life.now) ticket.now) }
+    requires reads { (node : AWholeNode) → life.now ≡ lives.Up node → HasReads node × (node.mail.store.own ≡ ticket.now.node) }
+    ensures { call_kind_seen result ≡ kind_on (Some life.now) ticket.now }
 {
     match life {
-        Life::Up(node) => node.mail().kind(ticket_of(ticket)),
+        Life::Up(node) => kind_in(node, ticket),
         Life::Down | Life::Lost => None,
     }
 }
@@ -84,10 +98,11 @@ impl<D: Disk> World<D> {
         sum(self.book.entries())
     }
 
-    /// The kind of the call for which the ticket stands; none exactly where it stands at no node that is up. It takes no memory.
+    /// The kind of the call for which the ticket stands, of messages or one that reads; none exactly where it stands at no node that is
+    /// up. It takes no memory.
     pub fn kind(&self, ticket: &Ticket) -> Option<CallKind>
         requires ready { CanMakeSteps D.seen self.now }
-        ensures { call_kind_seen result ≡ kind_of_ticket (standing_in self.now ticket.now) }
+        ensures { call_kind_seen result ≡ kind_standing self.now ticket.now }
     {
         match self.nodes.life(node_of(ticket)) {
             Some(life) => kind_at(life, ticket),

@@ -1,12 +1,13 @@
 //! What a node that is up does with its disk, and how its life then is.
-ghost use Rattle.std.specs.Prelude.{◌≡◌, ◌≤◌, ◌<◌, ℕ, All, IfOk, IfSome, if◌then◌else◌};
+ghost use Rattle.std.specs.Prelude.{◌≡◌, ◌≤◌, ◌<◌, ℕ, All, false, IfOk, IfSome, if◌then◌else◌};
 ghost use Rattle.mail_model.specs.Plan.{Plan as PlainPlan};
 ghost use Rattle.mail_model.specs.Identity.Key.{Message};
+ghost use Rattle.object_model.specs.Letters.{is_read_body};
 ghost use Rattle.cluster_model.specs.Rules.{widen};
+ghost use Rattle.joint_world.specs.Staying.{IsMailCall};
 ghost use Rattle.node_store.specs.Disks.{view_of};
 ghost use Rattle.node_core.specs.Nodes.{IsNodeOf};
 ghost use Rattle.node_core.specs.Works.{LeavesUp};
-ghost use Rattle.node_core.specs.Weights.{weight_of, weight_of_all};
 ghost use Rattle.node_core.specs.Beginning.{NodeBegins, IsTextEnded, call_seen};
 ghost use Rattle.node_core.specs.Pushing.{PushesOut, WidensCopy};
 ghost use Rattle.whole_node.specs.Nodes.{WholeWorks};
@@ -22,7 +23,7 @@ ghost use Rattle.cluster_world.specs.declared.life.Life.TheVariants as lives;
 use crate::life::Life;
 use call_tickets::Call;
 use io_edge::Disk;
-use mail_base::{Letter, MsgId, Name, NodeNo, Ticket, Users};
+use mail_base::{Letter, MsgId, Name, NodeNo, Ticket};
 use node_core::{NodeFault, Outbox};
 use node_maps::Concluded;
 use std::alloc::Global;
@@ -41,7 +42,7 @@ fn goes_down<T>(did: &Result<T, NodeFault>) -> bool
 }
 
 /// The node goes down, if it has to.
-fn settle<T>(life: &mut Life, did: &Result<T, NodeFault>)
+pub(crate) fn settle<T>(life: &mut Life, did: &Result<T, NodeFault>)
     ensures { (node : AWholeNode) → life.old ≡ lives.Up node → life.new ≡ life_left did.now node }
 {
     if goes_down(did) {
@@ -49,7 +50,7 @@ fn settle<T>(life: &mut Life, did: &Result<T, NodeFault>)
     }
 }
 
-/// A node that is up hears a letter.
+/// A node that is up hears a letter, but for those of calls that read.
 pub(crate) fn hear_at<D: Disk>(
     alloc: Global,
     life: &mut Life,
@@ -57,12 +58,12 @@ pub(crate) fn hear_at<D: Disk>(
     letter: &Letter,
 ) -> Result<Outbox, NodeFault>
     requires up { (node : AWholeNode) × (life.old ≡ lives.Up node) × WholeWorks (D.seen disk.old) node }
+    requires kind { is_read_body letter.now.body ≡ false }
     requires fits { CanBeHeard letter.now }
     ensures turns { TurnsBy D.seen (λ result old before new after. (plan : PlainPlan) (own : ℕ) → IsNodeOf plan own old → HearsAny (view_of D.seen D.faults D.clock) own plan.nodes letter.now old before new after result)
         (λ result old before new after. (plan : PlainPlan) (own : ℕ) → IsNodeOf plan own old.mail → HearsWhole (view_of D.seen D.faults D.clock) own plan.nodes letter.now result old before new after)
         result life.old disk.old life.new disk.new }
     ensures fits { IfOk result (λ outbox. All FitsMaps outbox.letters) }
-    ensures light { IfOk result (λ outbox. weight_of_all outbox.letters < weight_of letter.now) }
     ensures settled { LeavesUp result → D.settled disk.old → D.settled disk.new }
 {
     let done = match life {
@@ -73,25 +74,25 @@ pub(crate) fn hear_at<D: Disk>(
     done
 }
 
-/// A node that is up begins a call.
+/// A node that is up begins a call of messages.
 pub(crate) fn begin_at<D: Disk>(
     alloc: Global,
     life: &mut Life,
     disk: &mut D,
-    users: &Users,
     call: Call,
     seconds: u64,
 ) -> Result<(Option<Ticket>, Outbox), NodeFault>
     requires up { (node : AWholeNode) × (life.old ≡ lives.Up node) × WholeWorks (D.seen disk.old) node }
+    requires mail { IsMailCall (call_seen call) }
     requires ended { IsTextEnded (call_seen call) }
-    ensures turns { TurnsBy D.seen (λ result old before new after. (plan : PlainPlan) (own : ℕ) → IsNodeOf plan own old → users.now ≡ plan.users → IsTextEnded (call_seen call) → NodeBegins (view_of D.seen D.faults D.clock) plan own seconds (call_seen call) old before new after result)
-        (λ result old before new after. (plan : PlainPlan) (own : ℕ) → IsNodeOf plan own old.mail → users.now ≡ plan.users → FollowsCall (view_of D.seen D.faults D.clock) plan own seconds (call_seen call) result old before new after)
+    ensures turns { TurnsBy D.seen (λ result old before new after. (plan : PlainPlan) (own : ℕ) → IsNodeOf plan own old → IsTextEnded (call_seen call) → NodeBegins (view_of D.seen D.faults D.clock) plan own seconds (call_seen call) old before new after result)
+        (λ result old before new after. (plan : PlainPlan) (own : ℕ) → IsNodeOf plan own old.mail → FollowsCall (view_of D.seen D.faults D.clock) plan own seconds (call_seen call) result old before new after)
         result life.old disk.old life.new disk.new }
     ensures fits { IfOk result (λ begun. All FitsMaps (begun.1).letters) }
     ensures settled { LeavesUp result → D.settled disk.old → D.settled disk.new }
 {
     let done = match life {
-        Life::Up(node) => node.begin(alloc, disk, users, call, seconds),
+        Life::Up(node) => node.begin(alloc, disk, call, seconds),
         Life::Down | Life::Lost => unreachable!(),
     };
     settle(life, &done);

@@ -9,18 +9,15 @@ use crate::life::Life;
 use crate::nodes::Nodes;
 use crate::opening::{open_all, roomy_book};
 use crate::step::{Said, Step};
-use crate::steps::ask::ask_for;
-use crate::steps::begin::begin_call;
 use crate::steps::conclude::conclude_node;
 use crate::steps::crash::crash_node;
-use crate::steps::drop::drop_letter;
-use crate::steps::give_up::give_up_call;
 use crate::steps::group::group_node;
 use crate::steps::lose::lose_node;
-use crate::steps::post::post_letter;
 use crate::steps::push::push_states;
 use crate::steps::report::report_rows;
+use crate::steps::sorting::{begin_any, drop_any, post_any};
 use crate::steps::start::start_node;
+use crate::steps::tickets::{ask_any, give_up_any};
 use crate::steps::widen::widen_copy;
 use call_tickets::Call;
 use io_edge::Disk;
@@ -144,12 +141,14 @@ impl<D: Disk> World<D> {
         ensures sure { IsSurelyDone (state_of self.old) step.now result }
     {
         match step {
-            Step::Ask { ticket } => ask_for(alloc, &mut self.nodes, &mut self.book, ticket),
-            Step::GiveUp { ticket } => give_up_call(&mut self.nodes, &self.flying, ticket),
+            Step::Ask { ticket } => ask_any(alloc, &mut self.nodes, &mut self.book, ticket),
+            Step::GiveUp { ticket } => {
+                give_up_any(alloc, &mut self.nodes, &mut self.flying, ticket)
+            }
             Step::Start { node } => {
                 start_node(alloc, &mut self.nodes, &self.flying, &mut self.book, *node)
             }
-            Step::Drop { letter } => drop_letter(&mut self.nodes, &mut self.flying, *letter),
+            Step::Drop { letter } => drop_any(alloc, &mut self.nodes, &mut self.flying, *letter),
             Step::Crash { node } => {
                 crash_node(&mut self.nodes, &mut self.book, *node);
                 Ok(Said::Done)
@@ -158,7 +157,7 @@ impl<D: Disk> World<D> {
                 lose_node(&mut self.nodes, &mut self.book, *node);
                 Ok(Said::Done)
             }
-            Step::Post { letter, keep } => post_letter(
+            Step::Post { letter, keep } => post_any(
                 alloc,
                 &mut self.nodes,
                 &mut self.flying,
@@ -220,7 +219,7 @@ impl<D: Disk> World<D> {
         ensures steps { self.new.steps ≡ self.old.steps }
         ensures installs { BooksInstalls (Begin node call) self.old self.new }
     {
-        begin_call(
+        begin_any(
             alloc,
             &mut self.nodes,
             &mut self.flying,

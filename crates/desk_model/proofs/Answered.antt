@@ -1,25 +1,22 @@
 -- What an answer adds to the book.
-use Rattle.std.proofs.Common.{◌≡◌, ⊎_elim, ℕ, Bool, List, [], ◌∷◌, ◌++◌, map, append-nil, Option, Some, None, refl, sym, ap, ◌∙◌, subst}
-use Rattle.std.specs.FinMap as fin
+use Rattle.std.proofs.Common.{◌≡◌, inl, inr, ⊎_elim, ℕ, Bool, List, [], ◌∷◌, ◌++◌, map, append-nil, Option, refl, sym, ap, ◌∙◌, subst}
 use Rattle.mail_model.specs.Plan.{Plan}
 use Rattle.mail_model.specs.Book.{Acked, acked_in, struck_in}
 use Rattle.mail_model.specs.Book.BookEntry.{Acknowledged}
 use Rattle.object_model.specs.Letters.{Number}
-use Rattle.cluster_model.specs.Reads.{Found}
-use Rattle.cluster_model.specs.Cluster.{NodeFiling, AskedOfNodes, Want, Ticket, Node, Slot}
+use Rattle.cluster_model.specs.Cluster.{NodeFiling, AskedOfNodes, Want, Ticket}
 use Rattle.cluster_model.specs.Cluster.AskedOfNodes.{Copies, Deletion}
-use Rattle.cluster_model.specs.Progress.{NodeAnswer, answer_once_confirmed, ask_of, ask_of_found, confirmed_entries, wants_entries, entries_with}
+use Rattle.cluster_model.specs.Progress.{NodeAnswer, answer_once_confirmed, ask_of, confirmed_entries, wants_entries, entries_with}
 use Rattle.cluster_model.specs.Progress.NodeAnswer.{Stored, Dropped, Read, Failed}
 use Rattle.cluster_model.specs.Progress.Ask.{Done}
 use Rattle.cluster_model.specs.World.{World}
 use Rattle.cluster_model.specs.Steps.Step.{AskFor}
 use Rattle.cluster_model.specs.Steps.Said.{Asked}
 use Rattle.cluster_model.specs.Steps.StepOutcome.{Says}
-use Rattle.cluster_model.specs.Makes.{AnswersAsk, MakesStep}
+use Rattle.cluster_model.specs.Makes.{AnswersAsk, IsSaidOfReads, AnswersRead, MakesStep}
 use Rattle.cluster_model.specs.Makes.AnswersAsk.{Waits, Ends}
-use Rattle.cluster_owes.proofs.Standing.{StandsAs, same_up}
 use Rattle.cluster_owes.proofs.Books.{acked_both, struck_both}
-use Rattle.cluster_owes.proofs.Answering.{ticket_stands, unread, done_same, answered_so, failed_so}
+use Rattle.cluster_owes.proofs.Answering.{ticket_stands, answered_so, failed_so}
 use Rattle.desk_model.specs.Tickets.{IsDeletion, AreDeletions, MayStandBeside, AskOneThing, TicketsAskOneThing, StandsUnder, filing_asked, filing_in}
 use Rattle.desk_model.specs.Added.{Adds, AreForAnswer}
 
@@ -63,9 +60,6 @@ module _ (confirm : ℕ) (ticket : Ticket) (own : NodeAnswer) where
   failed_goal : (answer : NodeAnswer) → (m : _) → answer ≡ Failed m → Goal answer
   failed_goal answer m is = subst Goal (sym is) (record { acked = refl; struck = refl })
 
-  read_goal : (found : Found) → own ≡ Read found → Goal own
-  read_goal found is = subst Goal (sym is) (record { acked = refl; struck = refl })
-
   -- copies of a message
   stored_goal : (want : Want) (more : List Want) (filing : NodeFiling) → ticket.wants ≡ want ∷ more → want.asked ≡ Copies filing → more ≡ [] → own ≡ Stored filing.id want.confirmed → Goal own
   stored_goal want more filing wants asks none is =
@@ -92,45 +86,47 @@ module _ (confirm : ℕ) (ticket : Ticket) (own : NodeAnswer) where
   confirmed_goal want more (Deletion user id) wants asks beside is =
       dropped_goal want more (map (λ one. one.confirmed) (want ∷ more)) wants (subst IsDeletion (sym asks) tt) beside is
 
-  wanted_goal : (wants : List Want) → ticket.wants ≡ wants → AskOneThing wants → ticket.found ≡ None → ask_of confirm ticket ≡ Done own → Goal own
-  wanted_goal [] is one none e = failed_goal own ticket.mishaps (failed_so confirm ticket.mishaps ticket.wants own is (sym (unread confirm ticket none) ∙ e))
-  wanted_goal (want ∷ more) is one none e = ⊎_elim
+  wanted_goal : (wants : List Want) → ticket.wants ≡ wants → AskOneThing wants → ask_of confirm ticket ≡ Done own → Goal own
+  wanted_goal [] is one e = failed_goal own ticket.mishaps (failed_so confirm ticket.mishaps ticket.wants own is e)
+  wanted_goal (want ∷ more) is one e = ⊎_elim
       (λ all. confirmed_goal want more want.asked is refl one all)
       (λ bad. failed_goal own ticket.mishaps bad)
-      (answered_so confirm ticket.mishaps ticket.wants want more own is (sym (unread confirm ticket none) ∙ e))
+      (answered_so confirm ticket.mishaps ticket.wants want more own is e)
 
   pub answer_goal : AskOneThing ticket.wants → ask_of confirm ticket ≡ Done own → Goal own
-  answer_goal one e = by ticket.found refl
-    where
-      by : (found : Option Found) → ticket.found ≡ found → Goal own
-      by None is = wanted_goal ticket.wants refl one is e
-      by (Some found) is = read_goal found (sym (done_same (Read found) own (sym (ap (ask_of_found confirm ticket) is) ∙ e)))
+  answer_goal one e = wanted_goal ticket.wants refl one e
 
--- one ticket stands under a number
-one_stands : (slots : List Slot) (number : Number) (a b : Ticket) → StandsAs slots number a → StandsUnder slots number b → a ≡ b
-one_stands slots number a b s t =
-    let same = same_up s.node t.node s.disk t.disk (sym s.up ∙ t.up) in
-    some_same (sym s.here ∙ ap (λ (n : Node). fin.get n.tickets number.seq) same ∙ t.here)
-  where
-    some_same : Some a ≡ Some b → a ≡ b
-    some_same e = cc
+-- an answer of a call that reads acknowledges nothing
+read_answers : (held : Option NodeFiling) (own : NodeAnswer) → IsSaidOfReads (Asked (Done own)) → AreForAnswer held own []
+read_answers held (Stored id confirmers) said = absurd said
+read_answers held (Dropped confirmers) said = absurd said
+read_answers held (Read found) said = record { acked = refl; struck = refl }
+read_answers held (Failed mishaps) said = record { acked = refl; struck = refl }
 
-module _ (plan : Plan) (tells : Bool) (old new : World) (number : Number) (own : NodeAnswer) (all : TicketsAskOneThing old.slots) (ticket : Ticket) (stands : StandsUnder old.slots number ticket) where
-  by : AnswersAsk plan old number (Asked (Done own)) new → Adds (AreForAnswer (filing_in ticket.wants) own) old.book new.book
+module _ (plan : Plan) (tells : Bool) (old new : World) (number : Number) (own : NodeAnswer) (all : TicketsAskOneThing old.slots) (filed : Option NodeFiling)
+    (each : (ticket : Ticket) → StandsUnder old.slots number ticket → filing_in ticket.wants ≡ filed) where
+  -- a ticket of messages
+  by : AnswersAsk plan old number (Asked (Done own)) new → Adds (AreForAnswer filed own) old.book new.book
   by (Waits node disk stood up found got wanted e is new_world) = absurd (cc is)
   by (Ends node disk stood up found answer e is new_world) =
       let same_answer : answer ≡ own = cc is in
-      let same : stood ≡ ticket = one_stands old.slots number stood ticket (ticket_stands number old.slots node disk stood up found) stands in
-      let is_done : ask_of plan.confirm ticket ≡ Done own = ap (ask_of plan.confirm) (sym same) ∙ e ∙ ap Done same_answer in
+      let stands = ticket_stands number old.slots node disk stood up found in
+      let is_done : ask_of plan.confirm stood ≡ Done own = e ∙ ap Done same_answer in
       record {
-        added = entries_with own ticket;
-        book = ap (λ (w : World). w.book) new_world ∙ ap (λ a. old.book ++ entries_with a stood) same_answer ∙ ap (λ t. old.book ++ entries_with own t) same;
-        is = answer_goal plan.confirm ticket own (all number.node stands.node stands.disk stands.up number.seq ticket stands.here) is_done;
+        added = entries_with own stood;
+        book = ap (λ (w : World). w.book) new_world ∙ ap (λ a. old.book ++ entries_with a stood) same_answer;
+        is = subst (λ f. AreForAnswer f own (entries_with own stood)) (each stood (record { node = stands.node; disk = stands.disk; up = stands.up; boot = stands.boot; here = stands.here }))
+            (answer_goal plan.confirm stood own (all number.node stands.node stands.disk stands.up number.seq stood stands.here) is_done);
       }
 
-  acknowledges : MakesStep plan tells old (AskFor number) (Says (Asked (Done own))) new → Adds (AreForAnswer (filing_in ticket.wants) own) old.book new.book
-  acknowledges made = by made.1
+  -- and one of a call that reads
+  by_read : AnswersRead old number (Asked (Done own)) new → Adds (AreForAnswer filed own) old.book new.book
+  by_read r = record { added = []; book = ap (λ (w : World). w.book) r.new_world ∙ sym (append-nil old.book); is = read_answers filed own r.said_is }
+
+  acknowledges : MakesStep plan tells old (AskFor number) (Says (Asked (Done own))) new → Adds (AreForAnswer filed own) old.book new.book
+  acknowledges (sound, inl asked) = by asked
+  acknowledges (sound, inr read) = by_read read
 
 pub answers_acknowledge : (plan : Plan) (tells : Bool) (old new : World) (number : Number) (own : NodeAnswer) → MakesStep plan tells old (AskFor number) (Says (Asked (Done own))) new
-    → TicketsAskOneThing old.slots → (ticket : Ticket) → StandsUnder old.slots number ticket → Adds (AreForAnswer (filing_in ticket.wants) own) old.book new.book
-answers_acknowledge plan tells old new number own made all ticket stands = acknowledges plan tells old new number own all ticket stands made
+    → TicketsAskOneThing old.slots → (filed : Option NodeFiling) → ((ticket : Ticket) → StandsUnder old.slots number ticket → filing_in ticket.wants ≡ filed) → Adds (AreForAnswer filed own) old.book new.book
+answers_acknowledge plan tells old new number own made all filed each = acknowledges plan tells old new number own all filed each made

@@ -1,35 +1,36 @@
 -- What a call strikes and files as it begins, and what idle steps add to the book.
-use Rattle.std.proofs.Common.{◌≡◌, ℕ, ◌+◌, Bool, List, [], ◌∷◌, ◌++◌, length, append-nil, append_assoc, Some, None, refl, sym, ap, ◌∙◌, subst}
+use Rattle.std.proofs.Common.{◌≡◌, inl, inr, ⊎_elim, ℕ, ◌+◌, Bool, List, [], ◌∷◌, ◌++◌, length, append-nil, append_assoc, Some, None, refl, sym, ap, ◌∙◌, subst}
 use Rattle.sha2.specs.Sha256.{sha256}
 use Rattle.mail_model.specs.Identity.{Id}
 use Rattle.mail_model.specs.Plan.{Plan}
-use Rattle.mail_model.specs.Record.{Record}
 use Rattle.mail_model.specs.Told.{Mail}
 use Rattle.mail_model.specs.Book.{acked_in, struck_in}
 use Rattle.mail_model.specs.Book.BookEntry.{WentDown}
 use Rattle.object_model.specs.Letters.{Number}
-use Rattle.object_model.specs.Mishaps.{no_mishaps}
+use Rattle.object_model.specs.Mishaps.{no_mishaps, counted}
+use Rattle.object_model.specs.Mishaps.MishapKind.{FewMembers}
 use Rattle.session_model.specs.Calls.{Call}
 use Rattle.session_model.specs.Books.{struck_by}
-use Rattle.cluster_model.specs.Reads.{Found}
-use Rattle.cluster_model.specs.Cluster.{NodeFiling, Want, Ticket, CallKind, Node}
+use Rattle.cluster_model.specs.Cluster.{NodeFiling, Want, Ticket, CallKind, Node, with_slot}
 use Rattle.cluster_model.specs.Cluster.AskedOfNodes.{Copies}
 use Rattle.cluster_model.specs.Parts.{Sound}
-use Rattle.cluster_model.specs.Rules.{Reaction, new_want, new_number, begin_read, refuse}
+use Rattle.cluster_model.specs.Deeds.{slot_up}
+use Rattle.cluster_model.specs.Rules.{Reaction, new_want, new_number, refuse}
 use Rattle.cluster_model.specs.Room.{has_room}
 use Rattle.cluster_model.specs.World.{World, cluster_of}
 use Rattle.cluster_model.specs.Steps.{NodeCall, Step, Said, StepOutcome, mishaps_of_call, ids_drawn}
 use Rattle.cluster_model.specs.Steps.NodeCall.{Deliver, Login, Fetch, Strike, Leave}
 use Rattle.cluster_model.specs.Steps.Step.{Begin, Post, Widen, Start}
-use Rattle.cluster_model.specs.Steps.Said.{Begun, Faulted, Noted}
+use Rattle.cluster_model.specs.Steps.Said.{Begun, Faulted}
 use Rattle.cluster_model.specs.Steps.StepOutcome.{Says, NoMemory, Refused}
-use Rattle.cluster_model.specs.Makes.{after, with_struck, targets_for, begun_by, IsFound, BeginsCall, RunsShort, MakesStep}
-use Rattle.cluster_model.specs.Makes.BeginsCall.{FailsAtOnce, Goes, FailsInIt, Reads, FailsReading, Leaves}
+use Rattle.cluster_model.specs.Makes.{after, with_struck, targets_for, begun_by, BeginsCall, DrawsTicket, BeginsRead, DoesStep, RunsShort, MakesStep}
+use Rattle.cluster_model.specs.Makes.BeginsCall.{FailsAtOnce, Goes, FailsInIt}
+use Rattle.cluster_model.specs.Makes.BeginsRead.{HasNoManager, Draws, FailsReading, Leaves}
 use Rattle.cluster_model.specs.Makes.RunsShort.{Beginning, Hearing, Widening, Forming, Starting}
 use Rattle.cluster_owes.specs.Seen.{call_made}
 use Rattle.cluster_owes.specs.Outcomes.{IsIdleStep, IsFall}
 use Rattle.cluster_owes.proofs.Standing.{StandsAs, SameWants, put_keeps}
-use Rattle.cluster_owes.proofs.WorldSteps.{other_goes}
+use Rattle.cluster_owes.proofs.WorldSteps.{goes_letters, other_goes}
 use Rattle.cluster_owes.proofs.Books.{acked_both, struck_both}
 use Rattle.cluster_owes.proofs.Began.{struck_more, with_book, struck_is, struck_acked}
 use Rattle.desk_model.specs.Tickets.{StandsUnder, filing_asked, filing_in}
@@ -66,21 +67,32 @@ module _ (plan : Plan) (tells : Bool) (old new : World) (own : ℕ) (call : Node
   }
 
   -- a call that reads strikes nothing
-  reads_none : (disk : List Record) (found : Found) → IsFound plan tells disk call found → (with_struck old call).book ≡ old.book
-  reads_none disk found finds = by call finds
+  not_struck : (call_is : with_struck old call ≡ old) → new.book ≡ old.book → Goal
+  not_struck call_is is = struck_alone (is ∙ sym (ap (λ (w : World). w.book) call_is))
+
+  draws_none : DrawsTicket call → with_struck old call ≡ old
+  draws_none draws = by call draws
     where
-      by : (c : NodeCall) → IsFound plan tells disk c found → (with_struck old c).book ≡ old.book
-      by (Deliver mail) f = absurd f
-      by (Login user proof) f = refl
-      by (Fetch user id from most) f = refl
-      by (Strike user items) f = absurd f
-      by (Leave user) f = absurd f
+      by : (c : NodeCall) → DrawsTicket c → with_struck old c ≡ old
+      by (Deliver mail) d = absurd d
+      by (Login user proof) d = refl
+      by (Fetch user id from most holders) d = refl
+      by (Strike user items) d = absurd d
+      by (Leave user login manager) d = absurd d
 
-  fetch_none : (user : List ℕ) (id : Id) (from most : ℕ) → call ≡ Fetch user id from most → (with_struck old call).book ≡ old.book
-  fetch_none user id from most is = ap (λ c. (with_struck old c).book) is
+  fetch_none : (user : List ℕ) (id : Id) (from most holders : ℕ) → call ≡ Fetch user id from most holders → (with_struck old call).book ≡ old.book
+  fetch_none user id from most holders is = ap (λ c. (with_struck old c).book) is
 
-  no_leave : (user : List ℕ) → call ≡ Leave user → Goal
-  no_leave user is = absurd (let never : None ≡ Some asked = ap call_made (sym is) ∙ is_call in cc)
+  no_leave : (user : List ℕ) (login : Number) (manager : ℕ) → call ≡ Leave user login manager → Goal
+  no_leave user login manager is = absurd (let never : None ≡ Some asked = ap call_made (sym is) ∙ is_call in cc)
+
+  reads_so : (said : Said) → BeginsRead plan old own call said new → Goal
+  reads_so said (HasNoManager node disk user proof up is_login goes is new_world) =
+      not_struck (ap (with_struck old) is_login) (ap (λ (w : World). w.book) new_world ∙ after_book old own (refuse CallKind.LoggingIn (counted FewMembers no_mishaps) 0 node disk))
+  reads_so said (Draws node disk up draws goes is on) = not_struck (draws_none draws) (goes_letters (record old { slots = with_slot old.slots own (slot_up (record node { calls = node.calls + 1 }) disk) }) new on).book
+  reads_so said (FailsReading node disk user id from most holders up is_fetch reads is new_world) =
+      struck_falls (ap (λ (w : World). w.book) new_world ∙ ap (λ b. b ++ WentDown own ∷ []) (sym (fetch_none user id from most holders is_fetch)))
+  reads_so said (Leaves node disk user login manager up is_leave is on) = no_leave user login manager is_leave
 
   says_so : (said : Said) → BeginsCall plan tells old own call said new → Goal
   says_so said (FailsAtOnce node disk kind up of_kind fails is new_world) =
@@ -88,11 +100,10 @@ module _ (plan : Plan) (tells : Bool) (old new : World) (own : ℕ) (call : Node
   says_so said (Goes node disk octets up fails filed is new_world) =
       struck_alone (ap (λ (w : World). w.book) new_world ∙ after_book (with_struck old call) own (begun_by plan old own node disk call octets))
   says_so said (FailsInIt node disk octets up filed is g) = struck_falls (ap (λ (w : World). w.book) g.is)
-  says_so said (Reads node disk kind what up one goes of_kind finds is new_world) =
-      struck_alone (ap (λ (w : World). w.book) new_world ∙ after_book old own (begin_read kind what node disk) ∙ sym (reads_none disk what finds))
-  says_so said (FailsReading node disk user id from most up one goes reads is new_world) =
-      struck_falls (ap (λ (w : World). w.book) new_world ∙ ap (λ b. b ++ WentDown own ∷ []) (sym (fetch_none user id from most reads)))
-  says_so said (Leaves node disk user up one leaves is new_world) = no_leave user leaves
+
+  does_so : (said : Said) → DoesStep plan tells old (Begin own call) said new → Goal
+  does_so said (inl begins) = says_so said begins
+  does_so said (inr reads) = reads_so said reads
 
   same_call : (n : ℕ) (other : NodeCall) → Begin own call ≡ Begin n other → (call ≡ other) × (own ≡ n)
   same_call n other e = (cc e, cc e)
@@ -107,14 +118,14 @@ module _ (plan : Plan) (tells : Bool) (old new : World) (own : ℕ) (call : Node
   short_so n (Starting disk pending next records is here stops new_world) = absurd (let never : Begin own call ≡ Start n = is in cc)
 
   falls_so : (outcome : StepOutcome) → IsFall outcome → MakesStep plan tells old (Begin own call) outcome new → Goal
-  falls_so (Says said) fall made = says_so said made.1
+  falls_so (Says said) fall made = does_so said made.1
   falls_so (Refused fault) fall made = absurd fall
   falls_so (NoMemory None) fall made = absurd fall
   falls_so (NoMemory (Some n)) fall made = short_so n made
 
   pub begun_calls_strike : ((number : Number) → MakesStep plan tells old (Begin own call) (Says (Begun number)) new → Goal)
       × ((outcome : StepOutcome) → IsFall outcome → MakesStep plan tells old (Begin own call) outcome new → Goal)
-  begun_calls_strike = (λ number made. says_so (Begun number) made.1, falls_so)
+  begun_calls_strike = (λ number made. does_so (Begun number) made.1, falls_so)
 
 -- what a delivery filed
 module _ (plan : Plan) (tells : Bool) (old new : World) (own : ℕ) (mail : Mail) (number : Number) (ticket : Ticket) (stands : StandsUnder new.slots number ticket) (filing : NodeFiling)
@@ -138,23 +149,27 @@ module _ (plan : Plan) (tells : Bool) (old new : World) (own : ℕ) (mail : Mail
   by (FailsAtOnce node disk kind up of_kind fails is new_world) =
       absurd (none_filed ticket.wants
       (begun_wants old old own node disk (refuse kind (mishaps_of_call plan old.seconds node (Deliver mail)) (ids_drawn (Deliver mail)) node disk)
-      (record { kind = kind; wants = []; mishaps = mishaps_of_call plan old.seconds node (Deliver mail); found = None }) refl up refl refl refl new new_world ticket (stands_as node (number_of node is)))
+      (record { kind = kind; wants = []; mishaps = mishaps_of_call plan old.seconds node (Deliver mail) }) refl up refl refl refl new new_world ticket (stands_as node (number_of node is)))
       filed_is)
   by (Goes node disk octets up fails filed is new_world) =
       let first : NodeFiling = record { id = record { node = own; boot = node.boot; seq = node.drawn + 1 }; users = mail.mailboxes; seconds = old.seconds; size = length octets; digest = sha256 octets } in
       let want : Want = new_want own (Copies first) (targets_for plan own node) in
       let same : first ≡ filing = one_filed want first ticket.wants refl
       (begun_wants old old own node disk (begun_by plan old own node disk (Deliver mail) octets)
-      (record { kind = CallKind.Delivering; wants = want ∷ []; mishaps = no_mishaps; found = None }) refl up refl refl refl new new_world ticket (stands_as node (number_of node is)))
+      (record { kind = CallKind.Delivering; wants = want ∷ []; mishaps = no_mishaps }) refl up refl refl refl new new_world ticket (stands_as node (number_of node is)))
       filed_is in
       subst (IsFiledAs mail) same (record { octets = octets; stored = filed.0; users = refl; size = refl; digest = refl })
   by (FailsInIt node disk octets up filed is g) = absurd (let never : Begun number ≡ Faulted own = is in cc)
-  by (Reads node disk kind what up one goes of_kind finds is new_world) = absurd finds
-  by (FailsReading node disk user id from most up one goes reads is new_world) = absurd (let never : Begun number ≡ Faulted own = is in cc)
-  by (Leaves node disk user up one leaves is new_world) = absurd (let never : Begun number ≡ Noted = is in cc)
+
+  -- a delivery is no call that reads
+  none_read : BeginsRead plan old own (Deliver mail) (Begun number) new → ⊥
+  none_read (HasNoManager node disk user proof up is_login goes is new_world) = let never : Deliver mail ≡ Login user proof = is_login in cc
+  none_read (Draws node disk up draws goes is on) = draws
+  none_read (FailsReading node disk user id from most holders up is_fetch reads is new_world) = let never : Deliver mail ≡ Fetch user id from most holders = is_fetch in cc
+  none_read (Leaves node disk user login manager up is_leave is on) = let never : Deliver mail ≡ Leave user login manager = is_leave in cc
 
   filed_as : MakesStep plan tells old (Begin own (Deliver mail)) (Says (Begun number)) new → IsFiledAs mail filing
-  filed_as made = by made.1
+  filed_as made = ⊎_elim by (λ r. absurd (none_read r)) made.1
 
 pub deliveries_file : (plan : Plan) (tells : Bool) (old new : World) (own : ℕ) (mail : Mail) (number : Number) → MakesStep plan tells old (Begin own (Deliver mail)) (Says (Begun number)) new
     → (ticket : Ticket) → StandsUnder new.slots number ticket → (filing : NodeFiling) → filing_in ticket.wants ≡ Some filing → IsFiledAs mail filing

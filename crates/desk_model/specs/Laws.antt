@@ -1,5 +1,5 @@
 -- What the steps of a cluster keep, and what they add to its book.
-use Rattle.std.specs.Prelude.{◌≡◌, ℕ, Bool, List, Some}
+use Rattle.std.specs.Prelude.{◌≡◌, ℕ, Bool, List, Option, Some}
 use Rattle.mail_model.specs.Plan.{Plan}
 use Rattle.mail_model.specs.Told.{Mail}
 use Rattle.object_model.specs.Letters.{Number, MapRow}
@@ -47,7 +47,8 @@ abbrev pub DeliveriesFile : Type 0
 DeliveriesFile = (plan : Plan) (tells : Bool) (old new : World) (own : ℕ) (mail : Mail) (number : Number) → MakesStep plan tells old (Begin own (Deliver mail)) (Says (Begun number)) new
     → (ticket : Ticket) → StandsUnder new.slots number ticket → (filing : NodeFiling) → filing_in ticket.wants ≡ Some filing → IsFiledAs mail filing
 
--- The answer to a ticket acknowledges the copies of the message that was filed under it, if it is stored, and nothing else.
+-- The answer to a ticket acknowledges the copies of the message that was filed under it, if it is stored, and nothing else. Whatever stands under it filed this: of a call that reads nothing
+-- stands there.
 abbrev pub AnswersAcknowledge : Type 0
 AnswersAcknowledge = (plan : Plan) (tells : Bool) (old new : World) (number : Number) (own : NodeAnswer) → MakesStep plan tells old (AskFor number) (Says (Asked (Done own))) new
-    → TicketsAskOneThing old.slots → (ticket : Ticket) → StandsUnder old.slots number ticket → Adds (AreForAnswer (filing_in ticket.wants) own) old.book new.book
+    → TicketsAskOneThing old.slots → (filed : Option NodeFiling) → ((ticket : Ticket) → StandsUnder old.slots number ticket → filing_in ticket.wants ≡ filed) → Adds (AreForAnswer filed own) old.book new.book

@@ -21,7 +21,7 @@ abbrev pub MayStandBeside : AskedOfNodes → List Want → Type 0
 MayStandBeside (Copies filing) wants = wants ≡ []
 MayStandBeside (Deletion user id) wants = AreDeletions wants
 
--- One thing is asked: the copies of one message, or deletions. A call that failed at once asks for nothing, and neither does one that read.
+-- One thing is asked: the copies of one message, or deletions. A call that failed at once asks for nothing.
 abbrev pub AskOneThing : List Want → Type 0
 AskOneThing [] = ⊤
 AskOneThing (want ∷ wants) = MayStandBeside want.asked wants

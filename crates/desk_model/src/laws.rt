@@ -26,7 +26,8 @@ pub fn deliveries_file()
     ensures { DeliveriesFile }
 {}
 
-/// An answer acknowledges the copies of the message that was filed, if it is stored, and nothing else.
+/// An answer acknowledges the copies of the message that was filed, if it is stored, and nothing else. That of a call that reads
+/// acknowledges nothing.
 pub fn answers_acknowledge()
     ensures { AnswersAcknowledge }
 {}

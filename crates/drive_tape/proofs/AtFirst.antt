@@ -1,5 +1,5 @@
 -- How the nodes of a world are as it begins, and that a node is lost only by a run line.
-use Rattle.std.proofs.Common.{◌≡◌, ◌≢◌, ◌<◌, ◌≤◌, ℕ, zero, suc, nat_eq, nat_lt, Bool, true, false, ◌||◌, List, [], ◌∷◌, length, Some, refl, sym, ap, ◌∙◌, arith}
+use Rattle.std.proofs.Common.{◌≡◌, ◌≢◌, ◌<◌, ◌≤◌, ℕ, zero, suc, nat_eq, nat_lt, Bool, true, false, ◌||◌, List, [], ◌∷◌, length, Some, refl, sym, ap, ◌∙◌, subst, arith}
 use Rattle.std.specs.Prelude.{slice_get}
 use Rattle.std.proofs.lemmas.Bool.Decides.{nat_tests}
 use Rattle.mail_model.specs.Plan.{Plan}
@@ -7,8 +7,10 @@ use Rattle.object_model.specs.Letters.{MapRow}
 use Rattle.session_model.specs.Events.NodeLife.{Up}
 use Rattle.session_model.specs.Run.{is_no_node}
 use Rattle.cluster_model.specs.Cluster as plain
+use Rattle.cluster_model.specs.World as machine
 use Rattle.cluster_model.specs.WorldLaws.{fresh_slot, fresh_slots}
 use Rattle.node_store.specs.Disks.{View}
+use Rattle.whole_node.specs.Starting.{first_map}
 use Rattle.cluster_world.specs.Lives.{life_seen}
 use Rattle.cluster_world.specs.Stands.{SlotStands, SlotsStand}
 use Rattle.cluster_world.specs.Worlds.{plan_of, life_of, disks_of, lives_of, seen_life}
@@ -16,6 +18,7 @@ use Rattle.cluster_world.specs.Opens.{IsAtBeginning}
 use Rattle.cluster_world.specs.declared.life.Life.{Life}
 use Rattle.cluster_world.specs.declared.life.Life.TheVariants as life
 use Rattle.cluster_world.specs.declared.world.World.{World}
+use Rattle.cluster_world.proofs.Leading.{opens_whole}
 
 -- as a world begins
 
@@ -57,7 +60,9 @@ pub first_lives : {D : Type 0} (on : View D) (plan : Plan) (world : World D) →
 first_lives on plan world begins zero above within = absurd (omega (arith, above))
 first_lives on plan world begins (suc k) above within =
     let nodes : (plan_of world).nodes ≡ plan.nodes = ap (λ (p : Plan). p.nodes) begins.plan_is in
-    fresh_life on plan.nodes _ (lives_of world) (disks_of world) k begins.stands.slots (omega (arith, within, nodes)) (omega (arith, within, world.nodes.all)) (omega (arith, within, world.nodes.disk_each))
+    let slots : SlotsStand on (lives_of world) (disks_of world) (fresh_slots plan.nodes (first_map plan) plan.nodes) =
+    subst (λ (w : machine.World). SlotsStand on (lives_of world) (disks_of world) w.slots) (opens_whole on plan world begins).2 begins.stands.mail.slots in
+    fresh_life on plan.nodes (first_map plan) (lives_of world) (disks_of world) k slots (omega (arith, within, nodes)) (omega (arith, within, world.nodes.all)) (omega (arith, within, world.nodes.disk_each))
 
 -- a number that is that of a node
 pub node_within : (plan : Plan) (n : ℕ) → is_no_node plan n ≡ false → (1 ≤ n) × (n ≤ plan.nodes)

@@ -33,7 +33,7 @@ module _ {D : Type 0} (on : View D) (start old new : World D) (outcomes : List O
   -- a node whose disk failed in a step has its cause
   pub failed_now : (one : Step) (n : ℕ) → IsStep on (Ok (said.Faulted n)) one old new → HasFailed on start new n
   failed_now one n is =
-      has_failed on start outcomes awaited old at one n (state_of new) (state_of old) (carried on start outcomes awaited old at) (λ told. (stands_at on start outcomes awaited old at told).1) is.did
+      has_failed on start outcomes awaited old at one n (state_of new) old (carried on start outcomes awaited old at) (λ told. (stands_at on start outcomes awaited old at told).1) is.did
 
   -- memory ran out for a beginning
   broke_off : {E : Type 0} (node : ℕ) (call : Call) (asked : calls.Call) (why : StepFault) (e : E) → call_seen call ≡ Some asked → IsWholeCall asked → IsStep on (Err why) (step.Begin node call) old new

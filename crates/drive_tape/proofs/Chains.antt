@@ -4,11 +4,12 @@ use Rattle.std.specs.Prelude.{is_some, slice_get, ◌&&◌}
 use Rattle.std.specs.List.{list_all}
 use Rattle.io_edge.specs.Causes.{Rose}
 use Rattle.io_edge.specs.Octets.{IsToldAlike}
-use Rattle.cluster_model.specs.World as machine
+use Rattle.joint_world.specs.World.{mail_world_of}
 use Rattle.node_store.specs.Disks.{View}
 use Rattle.cluster_world.specs.Lives.{of_node}
-use Rattle.cluster_world.specs.Worlds.{WorldState, state_of, disk_in, disk_of_node, disks_tell, tells_in, StateStandsFor, StandsFor}
-use Rattle.cluster_world.specs.Steps.{StepDid}
+use Rattle.cluster_world.specs.Sound.{IsWhole}
+use Rattle.cluster_world.specs.Worlds.{WorldState, state_of, plan_of, disk_in, disk_of_node, disks_tell, tells_in}
+use Rattle.cluster_world.specs.Steps.{IsStep, StepDid}
 use Rattle.cluster_world.specs.Made.{StepMade, MakesSteps}
 use Rattle.cluster_world.specs.Outcomes.{Outcome, Awaited, Came, Makes}
 use Rattle.cluster_world.specs.Outcomes.Outcome.{Began, Refused, Fell, Broke, Answers, StillPending, Unanswered, GaveUp, Abandoned, KeptUp, Left, Moved, Settling, Mapped}
@@ -20,6 +21,7 @@ use Rattle.cluster_world.specs.declared.fault.StepFault.{StepFault}
 use Rattle.drive_tape.proofs.WholeTexts.{AreEnded, are_ended, settle_ended, whole_ended, leave_ended, whole_more}
 use Rattle.cluster_world.specs.Settling.{AreOfSettle}
 use Rattle.cluster_world.specs.Ended.{IsEnded}
+use Rattle.cluster_world.proofs.Leading.{step_leads}
 use Rattle.cluster_world.proofs.Ordered.{order_makes, order_are}
 use Rattle.drive_tape.specs.Worlds.{IsWholeOutcome, AreWhole, WorldIsAt, WentTo, HasFailed, HasCauses}
 
@@ -116,34 +118,34 @@ module _ {D : Type 0} (on : View D) where
   pub tells_same : (old new : WorldState D) → Carries on old new → tells_in on.seen new ≡ tells_in on.seen old
   tells_same old new carries = tells_lists old.disks new.disks carries.handed (λ n. carries.told (suc n))
 
-  stands_step : (result : Result Said StepFault) (step : Step) (old new : WorldState D) → StepDid on result step old new → IsEnded step → tells_in on.seen old ≡ true → ((w : machine.World) × StateStandsFor on old w) → ((w : machine.World) × StateStandsFor on new w)
-  stands_step result step old new did ended told stands = let led = did.leads (inl told) ended stands.0 stands.1 in (led.next, led.stands)
+  stands_step : (result : Result Said StepFault) (step : Step) (old new : World D) → IsStep on result step old new → IsEnded step → disks_tell on.seen old ≡ true → IsWhole on (plan_of old) old → IsWhole on (plan_of new) new
+  stands_step result step old new is ended told stands = (step_leads on result step old new (inl told) ended is stands).whole
 
-  pub stands_steps : (steps : List StepMade) (old new : World D) → MakesSteps on steps old new → AreEnded steps → disks_tell on.seen old ≡ true → ((w : machine.World) × StandsFor on old w) → ((w : machine.World) × StandsFor on new w)
-  stands_steps [] old new is ended told stands = subst (λ (world : World D). (w : machine.World) × StandsFor on world w) (sym is) stands
+  pub stands_steps : (steps : List StepMade) (old new : World D) → MakesSteps on steps old new → AreEnded steps → disks_tell on.seen old ≡ true → IsWhole on (plan_of old) old → IsWhole on (plan_of new) new
+  stands_steps [] old new is ended told stands = subst (λ (world : World D). IsWhole on (plan_of world) world) (sym is) stands
   stands_steps (one ∷ more) old new made ended told stands =
-      stands_steps more made.0 new made.2 ended.1 (tells_same _ _ (carries_step _ _ _ _ made.1.did) ∙ told) (stands_step _ _ _ _ made.1.did ended.0 told stands)
+      stands_steps more made.0 new made.2 ended.1 (tells_same _ _ (carries_step _ _ _ _ made.1.did) ∙ told) (stands_step _ _ _ _ made.1 ended.0 told stands)
 
-  stands_came : (outcome : Outcome) (awaited left : List Awaited) (old new : World D) → Came on outcome awaited old left new → IsWholeOutcome outcome → disks_tell on.seen old ≡ true → ((w : machine.World) × StandsFor on old w) → ((w : machine.World) × StandsFor on new w)
-  stands_came (Began k node asked ticket) awaited left old new came whole = stands_step _ _ _ _ came.3.did (whole_ended came.0 asked came.2 whole)
-  stands_came (Refused k node asked) awaited left old new came whole = stands_step _ _ _ _ came.4.did (whole_ended came.0 asked came.2 whole)
-  stands_came (Fell k node asked) awaited left old new came whole = stands_step _ _ _ _ came.2.did (whole_ended came.0 asked came.1 whole)
-  stands_came (Broke k node asked) awaited left old new came whole = stands_step _ _ _ _ came.3.did (whole_ended came.0 asked came.2 whole)
-  stands_came (Answers k asked ticket given) awaited left old new came whole = stands_step _ _ _ _ came.3.did tt
-  stands_came (StillPending k ticket) awaited left old new came whole = stands_step _ _ _ _ came.4.did tt
-  stands_came (Unanswered k asked ticket) awaited left old new came whole = stands_step _ _ _ _ came.3.did tt
-  stands_came (GaveUp k asked ticket) awaited left old new came whole = stands_step _ _ _ _ came.1.did tt
-  stands_came (Abandoned k asked ticket) awaited left old new came whole = stands_step _ _ _ _ came.1.did tt
-  stands_came (KeptUp k ticket why) awaited left old new came whole = stands_step _ _ _ _ came.2.did tt
-  stands_came (Left k node user) awaited left old new came whole = stands_step _ _ _ _ came.3.did (leave_ended user came.0 came.2)
+  stands_came : (outcome : Outcome) (awaited left : List Awaited) (old new : World D) → Came on outcome awaited old left new → IsWholeOutcome outcome → disks_tell on.seen old ≡ true → IsWhole on (plan_of old) old → IsWhole on (plan_of new) new
+  stands_came (Began k node asked ticket) awaited left old new came whole = stands_step _ _ _ _ came.3 (whole_ended came.0 asked came.2 whole)
+  stands_came (Refused k node asked) awaited left old new came whole = stands_step _ _ _ _ came.4 (whole_ended came.0 asked came.2 whole)
+  stands_came (Fell k node asked) awaited left old new came whole = stands_step _ _ _ _ came.2 (whole_ended came.0 asked came.1 whole)
+  stands_came (Broke k node asked) awaited left old new came whole = stands_step _ _ _ _ came.3 (whole_ended came.0 asked came.2 whole)
+  stands_came (Answers k asked ticket given) awaited left old new came whole = stands_step _ _ _ _ came.3 tt
+  stands_came (StillPending k ticket) awaited left old new came whole = stands_step _ _ _ _ came.4 tt
+  stands_came (Unanswered k asked ticket) awaited left old new came whole = stands_step _ _ _ _ came.3 tt
+  stands_came (GaveUp k asked ticket) awaited left old new came whole = stands_step _ _ _ _ came.1 tt
+  stands_came (Abandoned k asked ticket) awaited left old new came whole = stands_step _ _ _ _ came.1 tt
+  stands_came (KeptUp k ticket why) awaited left old new came whole = stands_step _ _ _ _ came.2 tt
+  stands_came (Left k node user) awaited left old new came whole = stands_step _ _ _ _ came.3 (leave_ended user came.0 came.2)
   stands_came (Moved order steps sum up) awaited left old new came whole = stands_steps steps old new (order_makes on order steps old new came.0) (are_ended order steps (order_are on order steps old new came.0))
   stands_came (Settling result steps) awaited left old new (makes, are, left_is) whole =
       stands_steps steps old new (subst (λ (l : List StepMade). MakesSteps on l old new) are makes.made) (settle_ended steps (subst AreOfSettle are makes.of))
-  stands_came (Mapped user told) awaited left old new came whole = λ tells stands. subst (λ (world : World D). (w : machine.World) × StandsFor on world w) (sym came.2) stands
+  stands_came (Mapped user told) awaited left old new came whole = λ tells stands. subst (λ (world : World D). IsWhole on (plan_of world) world) (sym came.2) stands
 
-  stands_makes : (outcomes : List Outcome) (awaited left : List Awaited) (old new : World D) → Makes on outcomes awaited old left new → AreWhole outcomes → disks_tell on.seen old ≡ true → ((w : machine.World) × StandsFor on old w)
-      → ((w : machine.World) × StandsFor on new w)
-  stands_makes [] awaited left old new made whole told stands = subst (λ (world : World D). (w : machine.World) × StandsFor on world w) (sym made.1) stands
+  stands_makes : (outcomes : List Outcome) (awaited left : List Awaited) (old new : World D) → Makes on outcomes awaited old left new → AreWhole outcomes → disks_tell on.seen old ≡ true → IsWhole on (plan_of old) old
+      → IsWhole on (plan_of new) new
+  stands_makes [] awaited left old new made whole told stands = subst (λ (world : World D). IsWhole on (plan_of world) world) (sym made.1) stands
   stands_makes (outcome ∷ more) awaited left old new made whole told stands =
       stands_makes more made.0 left made.1 new made.3 whole.1 (tells_same _ _ (carries_came outcome awaited made.0 old made.1 made.2) ∙ told) (stands_came outcome awaited made.0 old made.1 made.2 whole.0 told stands)
 
@@ -151,22 +153,22 @@ module _ {D : Type 0} (on : View D) where
     pub carried : Carries on (state_of start) (state_of old)
     carried = carries_makes outcomes [] awaited start old at.made
 
-    -- it stands for a world of the machine, where its disks tell what they hold
-    pub stands_at : disks_tell on.seen start ≡ true → (disks_tell on.seen old ≡ true) × ((w : machine.World) × StandsFor on old w)
-    stands_at told = (tells_same _ _ carried ∙ told, stands_makes outcomes [] awaited start old at.made at.whole told (at.stands told))
+    -- it stands for a sound world of the whole machine, where its disks tell what they hold
+    pub stands_at : disks_tell on.seen start ≡ true → (disks_tell on.seen old ≡ true) × IsWhole on (plan_of old) old
+    stands_at told = (tells_same _ _ carried ∙ told, stands_makes outcomes [] awaited start old at.made at.whole told at.stands)
 
     -- one step more
     pub world_more : (outcome : Outcome) (left : List Awaited) (new : World D) → Came on outcome awaited old left new → IsWholeOutcome outcome → WorldIsAt on start (outcomes ++ outcome ∷ []) left new
     world_more outcome left new came whole = record { stands = at.stands; made = makes_more outcomes outcome [] awaited left start old new at.made came; whole = whole_more outcomes outcome at.whole whole }
 
     -- a node that failed in a step has its cause
-    pub has_failed : (step : Step) (n : ℕ) (new : WorldState D) → (old' : WorldState D) → Carries on (state_of start) old' → (disks_tell on.seen start ≡ true → ((w : machine.World) × StateStandsFor on old' w))
-        → StepDid on (Ok (said.Faulted n)) step old' new → (disk disk' : D) → disk_of_node start n ≡ Some disk → disk_in new n ≡ Some disk'
+    pub has_failed : (step : Step) (n : ℕ) (new : WorldState D) → (old' : World D) → Carries on (state_of start) (state_of old') → (disks_tell on.seen start ≡ true → IsWhole on (plan_of old') old')
+        → StepDid on (Ok (said.Faulted n)) step (state_of old') new → (disk disk' : D) → disk_of_node start n ≡ Some disk → disk_in new n ≡ Some disk'
         → Rose (on.faults disk) (on.faults disk') ⊎ (on.seen disk ≡ None) ⊎ (disks_tell on.seen start ≡ false)
     has_failed step n new old' before stands did disk disk' was is = by (disks_tell on.seen start) refl
       where
-        between : (d : D) × (disk_in old' n ≡ Some d)
-        between = there_too (state_of start).disks old'.disks n disk before.handed was
+        between : (d : D) × (disk_in (state_of old') n ≡ Some d)
+        between = there_too (state_of start).disks (state_of old').disks n disk before.handed was
 
         none_before : on.seen between.0 ≡ None → on.seen disk ≡ None
         none_before none = by_told (on.seen disk) (sym (before.told n disk between.0 was between.1) ∙ ap (λ (o : Option (List ℕ)). is_some o) none)
@@ -178,10 +180,10 @@ module _ {D : Type 0} (on : View D) where
         by : (b : Bool) → disks_tell on.seen start ≡ b → Rose (on.faults disk) (on.faults disk') ⊎ (on.seen disk ≡ None) ⊎ (disks_tell on.seen start ≡ false)
         by false told = inr (inr told)
         by true told =
-            let w = stands told in
+            let whole = stands told in
             ⊎_elim (λ (rose : Rose (on.faults between.0) (on.faults disk')). let later = before.later n disk between.0 was between.1 in inl (omega (arith, rose, later)))
             (λ (none : (on.seen between.0 ≡ None) × _). inr (inl (none_before none.0)))
-            (did.cause w.0 w.1 between.0 disk' between.1 is)
+            (did.cause (mail_world_of whole.v) whole.stands.mail between.0 disk' between.1 is)
 
   -- what failed has failed
   pub failed_later : (start old new : World D) (n : ℕ) → Carries on (state_of start) (state_of old) → Carries on (state_of old) (state_of new) → HasFailed on start old n → HasFailed on start new n

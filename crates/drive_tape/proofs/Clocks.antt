@@ -231,4 +231,4 @@ pub on_time : {D : Type 0} (on : View D) (start : World D) (left0 left1 held0 he
     → (p : Progress on start left0 left1 held0 held1 cluster count room) → IsOnTime cluster.world p.point
 on_time on start left0 left1 held0 held1 cluster count room begins p =
     goes on (flat_map (λ a. a) p.acts) (plan_of start) [] [] p.point.outcomes [] p.point.awaited start cluster.world p.linked p.shows.at.made
-    ∙ ap (λ (s : ℕ). seconds_from s (flat_map (λ a. a) p.acts)) begins.stands.seconds ∙ ap seconds_after (sym p.been)
+    ∙ ap (λ (s : ℕ). seconds_from s (flat_map (λ a. a) p.acts)) begins.stands.mail.seconds ∙ ap seconds_after (sym p.been)

@@ -201,6 +201,12 @@ pub went_on : {D : Type 0} (on : View D) (start : World D) (plan : Plan) (p q : 
 went_on on start plan p q so held cluster work more =
     record { q = more.q; work = work_more plan p q more.q work more.work; held_is = more.held_is; shows = more.shows; so_is = more.so_is }
 
+-- what went on to a point, whichever it is, and from there on again
+pub goes_further : {D : Type 0} (on : View D) (start : World D) (plan : Plan) (p : Point) (so : Point → Type 0) (held : Option (List ℕ)) (mid : Cluster D) (onward : Point → Type 0) (held' : Option (List ℕ)) (new : Cluster D)
+    → WentOn on start plan p so held mid → ((q : Point) → IsAtPoint on start plan mid q → q.held ≡ held → so q → WentOn on start plan q onward held' new) → WentOn on start plan p onward held' new
+goes_further on start plan p so held mid onward held' new went more =
+    went_on on start plan p went.q onward held' new went.work (more went.q went.shows went.held_is went.so_is)
+
 -- or stopped
 pub stopped_on : {D : Type 0} (on : View D) (start : World D) (plan : Plan) (p q : Point) (reason : Why) (held : Option (List ℕ)) (world : World D)
     → Work plan p q → Stopped on start plan q reason held world → Stopped on start plan p reason held world
@@ -215,6 +221,11 @@ stopped_on on start plan p q reason held world work more =
       causes = subst (λ (d : List Act). HasCauses on start (failed_in d) world) (ap (λ (d : List Act). d ++ more.cut.acts) work.been ∙ append_assoc p.been work.acts more.cut.acts) more.causes;
       since = more.since;
     }
+
+pub stops_further : {D : Type 0} (on : View D) (start : World D) (plan : Plan) (p : Point) (so : Point → Type 0) (held : Option (List ℕ)) (mid : Cluster D) (reason : Why) (held' : Option (List ℕ)) (last : World D)
+    → WentOn on start plan p so held mid → ((q : Point) → IsAtPoint on start plan mid q → q.held ≡ held → so q → Stopped on start plan q reason held' last) → Stopped on start plan p reason held' last
+stops_further on start plan p so held mid reason held' last went more =
+    stopped_on on start plan p went.q reason held' last went.work (more went.q went.shows went.held_is went.so_is)
 
 -- memory ran out before anything was done
 stops_here : {D : Type 0} (on : View D) (start : World D) (plan : Plan) (p : Point) (last : World D)

@@ -27,6 +27,7 @@ use Rattle.cluster_world.specs.Opens.{IsAtBeginning}
 use Rattle.cluster_world.specs.Owing.{WorldOwes}
 use Rattle.cluster_world.specs.declared.world.World.{World}
 use Rattle.cluster_world.proofs.Chained.{plan_stays, later_after}
+use Rattle.cluster_world.proofs.Leading.{opens_whole}
 use Rattle.drive_tape.specs.declared.cluster.Cluster.{Cluster}
 use Rattle.drive_tape.specs.declared.drove.Drove.{Drove}
 use Rattle.drive_tape.specs.declared.drove.TapeFault.{TapeFault}
@@ -64,7 +65,7 @@ flat_last f xs x = flat_map-append f xs (x ∷ []) ∙ ap (λ l. flat_map f xs +
 -- ---- before the first line
 
 at_start : {D : Type 0} (on : View D) (world : World D) → IsAtBeginning on (plan_of world) world → WorldIsAt on world [] [] world
-at_start on world begins = record { stands = λ told. (_, begins.stands); made = (refl, refl); whole = tt }
+at_start on world begins = record { stands = (opens_whole on (plan_of world) world begins).0; made = (refl, refl); whole = tt }
 
 pub progress_start : {D : Type 0} (on : View D) (world : World D) (left held : Option (List ℕ)) (cluster : Cluster D)
     → IsAtBeginning on (plan_of world) world → cluster.world ≡ world → cluster.sessions.talkers.items ≡ [] → cluster.sessions.nodes.items ≡ [] → cluster.sessions.standing ≡ 0

@@ -1,13 +1,13 @@
 -- A session is opened.
 use Rattle.std.proofs.Common.{◌≡◌, ◌⊎◌, ◌+◌, ◌++◌, ◌∷◌, ◌<◌, ℕ, zero, suc, Bool, true, false, List, [], length, All, Option, Some, None, Ok, Err, refl, sym, ap, ap₂, ◌∙◌, subst, inl, inr, ⊎_elim, arith}
-use Rattle.std.specs.Prelude.{slice_get, not, nat_le, flat_map}
+use Rattle.std.specs.Prelude.{slice_get, nat_le, flat_map}
 use Rattle.std.specs.Io.KnownBytes.{Appends}
 use Rattle.std.proofs.lemmas.List.{append-nil, map-append}
 use Rattle.std.proofs.lemmas.List.Elements.{All-nil, All-cons}
 use Rattle.mail_model.specs.Lines.{HasNoCrlf, sent_line}
 use Rattle.mail_model.specs.Plan.{Plan}
 use Rattle.mail_model.specs.Site.{TapeFault}
-use Rattle.mail_model.specs.Site.TapeFault.{BadLine, NoSuchNode, TooManySessions}
+use Rattle.mail_model.specs.Site.TapeFault.{NoSuchNode, TooManySessions}
 use Rattle.mail_model.specs.Tape as tape
 use Rattle.mail_model.specs.Tape.{or_else}
 use Rattle.mail_model.specs.Tape.Order.{Open}
@@ -21,7 +21,7 @@ use Rattle.session_model.specs.Lives.{life_after}
 use Rattle.session_model.specs.Clocks.{seconds_after}
 use Rattle.session_model.specs.Turns.{Starts}
 use Rattle.session_model.specs.Turns.Turn.{Asking}
-use Rattle.session_model.specs.Run.{refusal, work_fault, can_serve, fault_if, is_no_node, is_on, count_on}
+use Rattle.session_model.specs.Run.{refusal, work_fault, fault_if, is_no_node, is_on, count_on}
 use Rattle.node_store.specs.Disks.{View}
 use Rattle.cluster_world.specs.declared.world.World.{World}
 use Rattle.drive_tape.specs.declared.cluster.Cluster.{Cluster}
@@ -45,15 +45,14 @@ node_alike plan n true is x y same = refl
 node_alike plan n false is x y same = same is
 
 pub opening_alike : {D : Type 0} (on : View D) (start : World D) (plan : Plan) (cluster : Cluster D) (p : Point) (protocol : tape.Protocol) (number : ℕ) → IsAtPoint on start plan cluster p
-    → opening_fault plan cluster protocol number ≡ refusal plan p.been p.sessions (Open protocol number)
+    → opening_fault plan cluster number ≡ refusal plan p.been p.sessions (Open protocol number)
 opening_alike on start plan cluster p protocol number shows =
-    ap (λ (rest : Option TapeFault). or_else (fault_if (not (can_serve plan protocol)) BadLine) rest)
-    (node_alike plan number (is_no_node plan number) refl _ _
+    node_alike plan number (is_no_node plan number) refl _ _
     (λ there. ap (λ (life : NodeLife). or_else (work_fault life) (fault_if (nat_le 256 cluster.sessions.standing) TooManySessions)) (shows.lives number there)
-    ∙ ap (λ (n : ℕ). or_else (work_fault (life_after p.been number)) (fault_if (nat_le 256 n) TooManySessions)) shows.count))
+    ∙ ap (λ (n : ℕ). or_else (work_fault (life_after p.been number)) (fault_if (nat_le 256 n) TooManySessions)) shows.count)
 
-pub admits_own : {D : Type 0} (plan : Plan) (cluster : Cluster D) (protocol : tape.Protocol) (number : ℕ) (found : ℕ × ℕ) → AdmitsSession plan cluster protocol number (Ok found) → AdmitsSession plan cluster protocol found.0 (Ok found)
-admits_own plan cluster protocol number found a = subst (λ (n : ℕ). AdmitsSession plan cluster protocol n (Ok found)) (sym a.0) a
+pub admits_own : {D : Type 0} (plan : Plan) (cluster : Cluster D) (number : ℕ) (found : ℕ × ℕ) → AdmitsSession plan cluster number (Ok found) → AdmitsSession plan cluster found.0 (Ok found)
+admits_own plan cluster number found a = subst (λ (n : ℕ). AdmitsSession plan cluster n (Ok found)) (sym a.0) a
 
 -- lists with one more
 get_front : {X : Type 0} (xs ys : List X) (i : ℕ) → i < length xs → slice_get (xs ++ ys) i ≡ slice_get xs i
@@ -84,7 +83,7 @@ opens_plain : (protocol : tape.Protocol) (node : ℕ) (greeting : List ℕ) → 
 opens_plain protocol node greeting = record { lives = λ n life. refl; failed = refl }
 
 -- a session is opened
-module _ {D : Type 0} (on : View D) (start : World D) (plan : Plan) (p : Point) (protocol : tape.Protocol) (node boot : ℕ) (old : Cluster D) (a : AdmitsSession plan old protocol node (Ok (node, boot)))
+module _ {D : Type 0} (on : View D) (start : World D) (plan : Plan) (p : Point) (protocol : tape.Protocol) (node boot : ℕ) (old : Cluster D) (a : AdmitsSession plan old node (Ok (node, boot)))
     (shows : IsAtPoint on start plan old p) where
   abbrev pub greeting : List ℕ
   greeting = greeting_of protocol node boot (length p.sessions + 1) (seconds_after p.been)

@@ -47,12 +47,11 @@ use Rattle.cluster_world.specs.Outcomes.Outcome.{Began, Refused, Fell, Broke, An
 use Rattle.cluster_world.specs.declared.world.World.{World}
 use Rattle.cluster_world.specs.declared.step.Step.TheVariants as step
 use Rattle.cluster_world.specs.Steps.{IsBlind}
-use Rattle.cluster_model.specs.Progress.{ask_of}
-use Rattle.cluster_model.specs.Progress.Ask.{Pending}
 use Rattle.cluster_world.proofs.Lasting.{pending_has_letter}
 use Rattle.cluster_world.proofs.Owed.{none_pending}
 use Rattle.cluster_world.proofs.Wholes.{world_is_whole, one_map_per_epoch}
 use Rattle.cluster_world.proofs.Righted.{settled_maps_are_right}
+use Rattle.cluster_world.specs.Lasting.{AllHaveLetters}
 use Rattle.cluster_world.specs.Rests.{HasRightMaps}
 use Rattle.cluster_world.specs.Settling.{IsAtRest, IsOfSettle, AreOfSettle}
 use Rattle.cluster_world.specs.Settling.IsOfSettle.{Posts, Pushes, Reports}
@@ -278,9 +277,8 @@ module _ {D : Type 0} (on : View D) (start last : World D) (begins : IsAtBeginni
 
   -- a ticket that is pending has a letter in flight
   pub letters_in : (plan_of last ≡ plan_of start) → AreToldOrBlind on start lines → HasLetters last
-  letters_in same told number ticket got wanted stands pending =
-      pending_has_letter on plan lines outcomes awaited start last (record { begins = begins; known = known told; makes = steps; sessions = of_sessions }) number ticket stands got wanted
-      (subst (λ (p : Plan). ask_of p.confirm ticket ≡ Pending got wanted) same pending)
+  letters_in same told = subst (λ (p : Plan). AllHaveLetters p.confirm last) (sym same)
+      (pending_has_letter on plan lines outcomes awaited start last (record { begins = begins; known = known told; makes = steps; sessions = of_sessions }))
 
   -- it stands for a sound world of the whole machine, and all memberships of one epoch are equal
   pub whole_in : AreToldOrBlind on start lines → IsWhole on plan last

@@ -161,7 +161,7 @@ module _ {D : Type 0} (on : View D) where
           last.did.lives n ∙ lives n (life_of mid n) ∙ ap (λ (life : NodeLife). life_by_event (event_seen event) n life) (calm_lives front old mid before calm n ∙ fit.lives n there)
           ∙ sym (life_more been (MakesAct order (event_seen event)) n (Up 1));
       cause = λ n among.
-          has_failed on start outcomes awaited old fit.at one.step n (state_of new) (state_of mid) (carries_more on (state_of start) (state_of old) (state_of mid) (carried on start outcomes awaited old fit.at) (carries_steps on front old mid before))
+          has_failed on start outcomes awaited old fit.at one.step n (state_of new) mid (carries_more on (state_of start) (state_of old) (state_of mid) (carried on start outcomes awaited old fit.at) (carries_steps on front old mid before))
           (λ told. let was = stands_at on start outcomes awaited old fit.at told in stands_steps on front old mid before ended was.0 was.1)
           (subst (λ (r : Result Said StepFault). StepDid on r one.step (state_of mid) (state_of new)) (failed n among) last.did);
     }

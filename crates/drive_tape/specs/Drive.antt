@@ -22,13 +22,8 @@ use Rattle.cluster_world.specs.Outcomes.{Outcome, Awaited, Makes, made_of, asked
 use Rattle.cluster_world.specs.Outcomes.Outcome.{Moved, Settling, KeptUp}
 use Rattle.session_model.specs.Events.NodeLife.{Up}
 use Rattle.mail_model.specs.Tape.{ClusterOrder as order}
-use Rattle.cluster_model.specs.Cluster.{Ticket}
-use Rattle.cluster_model.specs.Room.{Flight}
-use Rattle.cluster_model.specs.Progress.{ask_of}
-use Rattle.cluster_model.specs.Progress.Ask.{Pending}
-use Rattle.object_model.specs.Letters.{Number}
 use Rattle.cluster_world.specs.Worlds.{state_of, plan_of, disk_of_node, life_of}
-use Rattle.cluster_world.specs.Telling.{standing_in}
+use Rattle.cluster_world.specs.Lasting.{AllHaveLetters}
 use Rattle.cluster_world.specs.Rests.{HasRightMaps}
 use Rattle.cluster_world.specs.Settling.{IsAtRest}
 use Rattle.cluster_world.specs.Sound.{IsWhole}
@@ -122,10 +117,9 @@ StaysWhole {D} on start outcomes left last = (front back : List Outcome) (betwee
     → (n now : ℕ) (disk disk' : D) → life_of last n ≡ Up now → ((outcome : Outcome) → Among outcome back → StartsAgain n outcome → ⊥) → disk_of_node mid n ≡ Some disk → disk_of_node last n ≡ Some disk'
     → on.faults disk' ≡ on.faults disk
 
--- A ticket that the world would answer as pending has a letter of its own in flight.
+-- A ticket that the world would answer as pending has a letter of its own in flight, whether its call is one of messages or one that reads.
 abbrev pub HasLetters : {D : Type 0} → World D → Type 0
-HasLetters world = (number : Number) (ticket : Ticket) (got wanted : ℕ) → standing_in world number ≡ Some ticket → ask_of (plan_of world).confirm ticket ≡ Pending got wanted
-    → (flight : Flight) × Among flight (state_of world).flying.flights × (flight.letter.ticket ≡ Some number)
+HasLetters world = AllHaveLetters (plan_of world).confirm world
 
 -- Wherever a node regrouped and an epoch was formed, the members that are named are the nodes that were up: those that the acts before left so, in rising order.
 abbrev pub NamesTheUp : Plan → List Act → Type 0

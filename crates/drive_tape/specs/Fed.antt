@@ -1,5 +1,5 @@
 -- What the first act of a line needs.
-use Rattle.std.specs.Prelude.{◌≡◌, ◌≢◌, Bool, true, false, not, nat_le, ◌⊎◌, ◌+◌, ◌<◌, ℕ, List, [], ◌∷◌, ◌++◌, flat_map, All, slice_get, Option, Some, None, Result, Ok, Err, if◌then◌else◌}
+use Rattle.std.specs.Prelude.{◌≡◌, ◌≢◌, Bool, true, false, nat_le, ◌⊎◌, ◌+◌, ◌<◌, ℕ, List, [], ◌∷◌, ◌++◌, flat_map, All, slice_get, Option, Some, None, Result, Ok, Err, if◌then◌else◌}
 use Rattle.object_model.specs.Letters.{Number}
 use Rattle.mail_model.specs.Lines.{HasNoCrlf, sent_line}
 use Rattle.mail_model.specs.Plan.{Plan}
@@ -19,7 +19,7 @@ use Rattle.session_model.specs.Lives.{failed_in}
 use Rattle.session_model.specs.Sessions.{Session}
 use Rattle.session_model.specs.Turns.{Starts, Waits}
 use Rattle.session_model.specs.Turns.Turn.{Hearing}
-use Rattle.session_model.specs.Run.{refusal, work_fault, can_serve, fault_if, is_no_node, count_on}
+use Rattle.session_model.specs.Run.{refusal, work_fault, fault_if, is_no_node, count_on}
 use Rattle.node_store.specs.Disks.{View}
 use Rattle.cluster_world.specs.Outcomes.{Outcome, Awaited, without_session}
 use Rattle.cluster_world.specs.Outcomes.Outcome.{GaveUp, Abandoned, KeptUp}
@@ -57,18 +57,17 @@ pub record IsFeedingAt (p : Point) (line : List ℕ) (place : ℕ) (octets : Lis
   pub on : IsOn plain.standing
 
 -- why a session may not be opened, the first that applies
-abbrev pub opening_fault : {D : Type 0} → Plan → Cluster D → tape.Protocol → ℕ → Option site.TapeFault
-opening_fault plan cluster protocol number =
-    tape.or_else (fault_if (not (can_serve plan protocol)) site.TapeFault.BadLine)
-    (tape.or_else (fault_if (is_no_node plan number) site.TapeFault.NoSuchNode)
-    (tape.or_else (work_fault (life_of cluster.world number)) (fault_if (nat_le 256 cluster.sessions.standing) site.TapeFault.TooManySessions)))
+abbrev pub opening_fault : {D : Type 0} → Plan → Cluster D → ℕ → Option site.TapeFault
+opening_fault plan cluster number =
+    tape.or_else (fault_if (is_no_node plan number) site.TapeFault.NoSuchNode)
+    (tape.or_else (work_fault (life_of cluster.world number)) (fault_if (nat_le 256 cluster.sessions.standing) site.TapeFault.TooManySessions))
 
 -- whether a session may be opened at the node of this number: the node, in this boot; or why not
-abbrev pub AdmitsSession : {D : Type 0} → Plan → Cluster D → tape.Protocol → ℕ → Result (ℕ × ℕ) TapeFault → Type 0
-AdmitsSession plan cluster protocol number (Ok found) =
+abbrev pub AdmitsSession : {D : Type 0} → Plan → Cluster D → ℕ → Result (ℕ × ℕ) TapeFault → Type 0
+AdmitsSession plan cluster number (Ok found) =
     (found.0 ≡ number) × (life_of cluster.world number ≡ Up found.1) × (cluster.sessions.standing < 256) × (is_no_node plan number ≡ false)
-    × (opening_fault plan cluster protocol number ≡ None)
-AdmitsSession plan cluster protocol number (Err fault) = opening_fault plan cluster protocol number ≡ Some (tape_fault_seen fault)
+    × (opening_fault plan cluster number ≡ None)
+AdmitsSession plan cluster number (Err fault) = opening_fault plan cluster number ≡ Some (tape_fault_seen fault)
 
 -- The session at this place has no call in progress, as the program sees it; the others are as they were at the point.
 pub record IsFreed {D : Type 0} (on : View D) (start : World D) (plan : Plan) (p : Point) (place : ℕ) (been : List Act) (outcomes : List Outcome) (awaited : List Awaited) (cluster : Cluster D) : Type 0 where

@@ -15,9 +15,9 @@ use Rattle.object_model.specs.Lists.{Among}
 use Rattle.mail_base.specs.declared.filing.CallKind.{CallKind}
 use Rattle.call_tickets.specs.declared.answer.Answer.{Answer}
 use Rattle.call_tickets.specs.Seen.{answer_seen}
-use Rattle.cluster_model.specs.World as plain
 use Rattle.node_store.specs.Disks.{View}
-use Rattle.cluster_world.specs.Worlds.{CanMakeSteps, state_of, plan_of, life_of, disk_of_node, disks_tell, StandsFor}
+use Rattle.cluster_world.specs.Sound.{IsWhole}
+use Rattle.cluster_world.specs.Worlds.{CanMakeSteps, state_of, plan_of, life_of, disk_of_node, disks_tell}
 use Rattle.cluster_world.specs.Outcomes.{Outcome, Awaited, Makes, awaited_elsewhere, without_session}
 use Rattle.cluster_world.specs.Outcomes.Outcome.{Began, Refused, Fell, Broke, Answers, StillPending, Unanswered, GaveUp, Abandoned, KeptUp, Left}
 use Rattle.cluster_world.specs.Steps.{AreSettled}
@@ -51,9 +51,9 @@ abbrev pub AreWhole : List Outcome → Type 0
 AreWhole [] = ⊤
 AreWhole (outcome ∷ outcomes) = IsWholeOutcome outcome × AreWhole outcomes
 
--- A world began here, and made these steps since and no others; these calls are awaited. Where the disks tell what they hold, it began as one of the machine.
+-- A world began here, and made these steps since and no others; these calls are awaited. It began as a sound one of the whole machine.
 pub record WorldIsAt {D : Type 0} (on : View D) (start : World D) (outcomes : List Outcome) (awaited : List Awaited) (world : World D) : Type 0 where
-  pub stands : disks_tell on.seen start ≡ true → (w : plain.World) × StandsFor on start w
+  pub stands : IsWhole on (plan_of start) start
   pub made : Makes on outcomes [] start awaited world
   pub whole : AreWhole outcomes
 

@@ -53,7 +53,8 @@
 //! call at the session's node: it is one step of the world, and then the session waits. After each line the
 //! sessions that wait are asked for, in rising order of number: asking for one is a step of its own. Where
 //! its answer is there, its reply is written, and it hears on, and may wait again; else it waits for a later
-//! line. With one node each answer is there at once.
+//! line. With one node each answer is there at once. Mail is read at any node; where a user's messages are held
+//! elsewhere, a login or a fetch waits for letters as a delivery does.
 //!
 //! - a whole message is delivered: once so many nodes as the plan asks for have it on their disks and have said
 //!   so, the ask enters it in the book. Then its session is answered `250 stored`.
@@ -78,8 +79,7 @@
 //! - `BadPlan`, up to `go`: the line is no plan line, or breaks its rule, or comes once too often. At
 //!   `go`: something is missing, or does not fit together.
 //! - `BadLine`: the line is too long, or the tape ended before it was whole; after `go` also one that is
-//!   no run line, `open pop` in a plan of several nodes, `widen` for a user whom the plan has not, and
-//!   `giveup` of a session that does not wait.
+//!   no run line, `widen` for a user whom the plan has not, and `giveup` of a session that does not wait.
 //! - `NoSuchNode`: the plan has no node of that number. The node in an ID is not meant.
 //! - `NoSuchSession`: `say`, `feed`, `close` or `giveup` names a session that was never opened, or has ended.
 //! - `NodeLost`: `open`, `crash`, `start`, `lose`, `widen`, `group`, `conclude` or `regroup` names a node that is lost,

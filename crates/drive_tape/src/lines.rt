@@ -34,17 +34,10 @@ use tape_lines::{ClusterOrder, Protocol};
 const MOST_SESSIONS: u64 = 256;
 
 // The node at which a session may be opened, and its boot; or why not, the first that applies.
-fn admit_session<D: Disk>(
-    cluster: &Cluster<D>,
-    protocol: Protocol,
-    number: u64,
-) -> Result<(NodeNo, u32), TapeFault>
+fn admit_session<D: Disk>(cluster: &Cluster<D>, number: u64) -> Result<(NodeNo, u32), TapeFault>
     requires ready { WorldIsReady D.seen D.settled cluster.now.world }
-    ensures admits { AdmitsSession (plan_of cluster.now.world) cluster.now (protocol_seen protocol) number result }
+    ensures admits { AdmitsSession (plan_of cluster.now.world) cluster.now number result }
 {
-    if protocol == Protocol::Pop && cluster.world.plan().nodes > 1 {
-        return Err(TapeFault::BadLine);
-    }
     let node = worker(&cluster.world, number)?;
     let Some(boot) = cluster.world.boot(node) else {
         return Err(TapeFault::NodeDown);
@@ -77,7 +70,7 @@ pub(crate) fn open_line<D: Disk, K: Sink>(
     ensures later { K.faults sink.old ≤ K.faults sink.new }
     ensures failed { IsErrOf result Stop.WriteFault → Rose (K.faults sink.old) (K.faults sink.new) }
 {
-    let (only, boot) = match admit_session(cluster, protocol, node) {
+    let (only, boot) = match admit_session(cluster, node) {
         Ok(found) => found,
         Err(fault) => return Err(Stop::Bad(fault)),
     };

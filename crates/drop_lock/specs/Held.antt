@@ -1,14 +1,9 @@
--- Which ticket holds each user's maildrop.
+-- The map of locks as the code keeps it.
 use Rattle.std.specs.Prelude.{ℕ, refl}
-use Rattle.std.specs.Ordering.{nat_cmp}
-use Rattle.std.specs.Cmp.Lexicographic.{slice_cmp}
 use Rattle.std.specs.Coded.{Coded, code_by, coded×, coded_ℕ, coded_list}
 use Rattle.std.specs.FinMap as map
 use Rattle.object_model.specs.Letters.{Number}
-
--- the holder of each lock that is held, by the name of its user
-abbrev pub Held : Type 0
-Held = map.FinMap (slice_cmp nat_cmp) Number
+use Rattle.object_model.specs.Locks.{Held}
 
 abbrev pub number_code : Coded Number
 number_code = code_by (ℕ × (ℕ × ℕ)) (coded× coded_ℕ (coded× coded_ℕ coded_ℕ)) (λ n. (n.node, (n.boot, n.seq))) (λ q. record { node = q.0; boot = q.1.0; seq = q.1.1 }) (λ _. refl)

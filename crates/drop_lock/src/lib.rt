@@ -7,14 +7,14 @@
 //!
 //! DESCRIPTION
 //!
-//! A contract sees a finite map from the names of users to the numbers of tickets. So a user's lock is
-//! held by at most one ticket. `Locks::take` refuses exactly where another ticket holds the lock, and
+//! A contract sees the finite map of `object_model` from the names of users to the numbers of tickets.
+//! So a user's lock is held by at most one ticket. `Locks::take` refuses exactly where another ticket holds the lock, and
 //! names that ticket. `Locks::release` lets go only what that ticket holds. `Locks::clear` lets go
 //! everything, as an install of a new epoch does.
 //!
 //! STANDS ON
 //!
-//! `mail_base` for names and tickets.
+//! `mail_base` for names and tickets, `object_model` for what becomes of the map.
 //!
 //! WHAT IT DOES NOT DO
 //!

@@ -1,7 +1,8 @@
 // The locks of maildrops.
 ghost use Rattle.std.specs.Prelude.{◌≡◌, OnOk, OnErr};
 ghost use Rattle.std.specs.FinMap as map;
-ghost use Rattle.drop_lock.specs.Locks.{TakesLock, released, no_locks};
+ghost use Rattle.object_model.specs.Locks.{released, no_locks};
+ghost use Rattle.drop_lock.specs.Locks.{TakesLock};
 
 use mail_base::{Name, Ticket};
 use std::alloc::{AllocError, Global};
@@ -36,7 +37,8 @@ pub struct Locks {
 
 impl Model for Locks {
     ghost use Rattle.std.specs.FinMap as map;
-    ghost use Rattle.drop_lock.specs.Held.{Held, held_code};
+    ghost use Rattle.object_model.specs.Locks.{Held};
+    ghost use Rattle.drop_lock.specs.Held.{held_code};
 
     ghost Value = { Held };
 

@@ -20,7 +20,7 @@ use Rattle.whole_model.specs.Moves as whole_moves
 use Rattle.whole_model.specs.Rules.{IsMail, IsMailBody}
 use Rattle.whole_model.proofs.Leading.{messages_led}
 use Rattle.login_model.specs.Cluster as login
-use Rattle.login_model.specs.Locks.{Held}
+use Rattle.object_model.specs.Locks.{Held}
 use Rattle.login_model.specs.Rules as login_rules
 use Rattle.login_model.specs.Facts.{IsReadBody, GoesOut}
 use Rattle.login_model.specs.Moves as login_moves

@@ -13,7 +13,7 @@ use Rattle.maps_model.specs.Cluster as maps
 use Rattle.maps_model.specs.Laws.{IsEpochSettled}
 use Rattle.whole_model.specs.Whole as whole
 use Rattle.login_model.specs.Cluster as login
-use Rattle.login_model.specs.Locks.{Held}
+use Rattle.object_model.specs.Locks.{Held}
 use Rattle.login_model.specs.Rules as login_rules
 use Rattle.login_model.specs.Readings.{Login}
 use Rattle.login_model.specs.Facts.{IsDrawn}

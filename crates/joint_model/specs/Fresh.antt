@@ -17,7 +17,7 @@ use Rattle.whole_model.specs.Whole as whole
 use Rattle.login_model.specs.Readings.{Login}
 use Rattle.login_model.specs.Listing.{LoginItem, ListsItems, IsFreshLogin, NamesHolders, ListsStanding}
 use Rattle.joint_model.specs.Joint.{Node, Slot, Cluster, slot_at, slot_up, whole_of, reads_of}
-use Rattle.login_model.specs.Locks.{Held}
+use Rattle.object_model.specs.Locks.{Held}
 use Rattle.login_model.specs.Rules as login_rules
 use Rattle.login_model.specs.Facts.{IsDrawn}
 use Rattle.joint_model.specs.Moves.{Move, after_moves, MayMoves, Sound}

@@ -8,7 +8,7 @@ use Rattle.maps_model.specs.Cluster as maps
 use Rattle.maps_model.specs.Laws.{named}
 use Rattle.whole_model.specs.Whole as whole
 use Rattle.login_model.specs.Readings.{Reads}
-use Rattle.login_model.specs.Locks.{Held}
+use Rattle.object_model.specs.Locks.{Held}
 use Rattle.login_model.specs.Cluster as login
 
 -- the soft state of a node: for messages, membership and maps, its tickets of calls that read, and the locks of the maildrops that it manages

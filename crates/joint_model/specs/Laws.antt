@@ -10,7 +10,7 @@ use Rattle.cluster_model.specs.Deeds as mail_deeds
 use Rattle.whole_model.specs.Whole as whole
 use Rattle.whole_model.specs.Moves as whole_moves
 use Rattle.login_model.specs.Cluster as login
-use Rattle.login_model.specs.Locks.{Held}
+use Rattle.object_model.specs.Locks.{Held}
 use Rattle.login_model.specs.Rules as login_rules
 use Rattle.login_model.specs.Facts.{IsReadBody, GoesOut}
 use Rattle.login_model.specs.Moves as login_moves

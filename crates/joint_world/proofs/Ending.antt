@@ -29,7 +29,7 @@ use Rattle.joint_world.specs.Putting.{Missed, missed_by, missed_at, missed_under
 use Rattle.joint_world.specs.Ending.{chances_of, chances_in, chances_at, chances_left, AreOfTicket}
 
 -- letters that a mishap sends are of the ticket, or of none
-abbrev OfTicket : Number → Letter → Type 0
+abbrev pub OfTicket : Number → Letter → Type 0
 OfTicket number letter = (letter.ticket ≡ None) ⊎ (letter.ticket ≡ Some number)
 
 module _ (u : Under) where
@@ -44,7 +44,7 @@ module _ (u : Under) where
   first_of fetch left [] letter m = absurd m
   first_of fetch left (holder ∷ others) letter m = ⊎_elim (λ is. subst (OfTicket u.number) is (inr refl)) (λ none. absurd none) m
 
-  befell_of : (at : ℕ) (reading : Reading) (letter : Letter) → Among letter (befell u at reading).out → OfTicket u.number letter
+  pub befell_of : (at : ℕ) (reading : Reading) (letter : Letter) → Among letter (befell u at reading).out → OfTicket u.number letter
   befell_of at (LogsIn login_) letter m = by login_.stage m
     where
       test : (b : Bool) → Among letter (if b then fail u login_ else same (LogsIn login_)).out → OfTicket u.number letter
@@ -67,7 +67,7 @@ module _ (u : Under) where
       by (IsAnswered other part) k = absurd k
       by NobodyLeft k = absurd k
 
-mishap_of : (own : ℕ) (kind : MishapKind) (at : ℕ) (node : login.Node) (number : Number) (letter : Letter) → Among letter (mishap own kind at node number).out → OfTicket number letter
+pub mishap_of : (own : ℕ) (kind : MishapKind) (at : ℕ) (node : login.Node) (number : Number) (letter : Letter) → Among letter (mishap own kind at node number).out → OfTicket number letter
 mishap_of own kind at node number letter m = by (read_at own node (Some number)) m
   where
     by : (r : Option ReadTicket) → Among letter (befell_at own kind at node number r).out → OfTicket number letter
@@ -75,7 +75,7 @@ mishap_of own kind at node number letter m = by (read_at own node (Some number))
     by (Some ticket) k = befell_of (under own node number) at ticket.reading letter k
 
 -- and each takes a chance away
-mishap_falls : (own : ℕ) (kind : MishapKind) (at : ℕ) (node : login.Node) (number : Number)
+pub mishap_falls : (own : ℕ) (kind : MishapKind) (at : ℕ) (node : login.Node) (number : Number)
     → length (mishap own kind at node number).out + chances_of (read_at own (record node { reads = (mishap own kind at node number).node.reads }) (Some number)) ≤ chances_of (read_at own node (Some number))
 mishap_falls own kind at node number = by (read_at own node (Some number)) refl
   where

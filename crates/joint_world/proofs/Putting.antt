@@ -7,28 +7,31 @@ use Rattle.object_model.specs.Mishaps.MishapKind.{Crowded}
 use Rattle.object_model.specs.Letters.{Number, Letter}
 use Rattle.object_model.proofs.Lists.{among_either}
 use Rattle.cluster_model.specs.Room.{Flight, fits, octets_of, octets_of_all, has_room}
+use Rattle.cluster_model.specs.Cluster as mail_cluster
+use Rattle.cluster_model.specs.Deeds as mail_deeds
+use Rattle.cluster_model.specs.Makes.{IsReadLetter, GoesOnReading}
+use Rattle.cluster_model.specs.World as mail
 use Rattle.cluster_model.specs.World.{letters_of}
 use Rattle.cluster_model.proofs.Stepping.{letters_both}
 use Rattle.whole_model.specs.Whole as whole
 use Rattle.whole_world.specs.World as whole_world
+use Rattle.whole_world.proofs.Along.{mail_here}
 use Rattle.login_model.specs.Cluster as login
 use Rattle.login_model.specs.Rules as login_rules
 use Rattle.login_model.specs.Facts.{GoesOut, far_end}
-use Rattle.login_model.specs.Parts as login_parts
 use Rattle.login_model.specs.Putting as login_putting
 use Rattle.login_model.specs.Putting.{with_did, missed_life, missed_slot, with_queue}
 use Rattle.login_model.proofs.Going.{mishap_goes}
-use Rattle.login_model.proofs.Kept as login_kept
 use Rattle.login_model.proofs.Putting.{puts_may}
 use Rattle.joint_model.specs.Joint.{Node, Life, Slot, slot_at, with_slot, slot_up, whole_slot, read_node, read_slot}
 use Rattle.joint_model.specs.Joint.Life.{Up, Down, Lost}
 use Rattle.joint_model.proofs.Kept.{whole_here, read_here, read_set}
-use Rattle.joint_world.specs.World.{World, whole_world_of, reads_of, with_letter}
+use Rattle.joint_world.specs.World.{World, mail_world_of, reads_of, with_letter}
 use Rattle.joint_world.specs.Rules.{Reaction, locks_befallen, befallen}
 use Rattle.joint_world.specs.Putting.{Missed, missed_by, missed_at, missed_under, missed, put, Puts}
 use Rattle.joint_world.specs.Laws.{TellAlike, HasGrown}
-use Rattle.joint_world.specs.Seen.{SeesOne, SeesThrough, SeesReading}
-use Rattle.joint_world.specs.Seen.SeesOne.{Sends}
+use Rattle.joint_world.proofs.Bodies.{body_reads}
+use Rattle.joint_world.proofs.Since.{Going, all_going}
 use Rattle.joint_world.proofs.Rules.{seen_is, mishap_alone}
 use Rattle.joint_world.proofs.Views.{read_none, whole_same, whole_set, alike_more, SameDisks, disks_self, disks_on, disks_write, OfDisks, of_disks, of_disks_on}
 
@@ -168,13 +171,13 @@ module _ (tells : Bool) where
           flies h (record { now = g.now; alike = g.alike; grows = g.grows; disks = g.disks; holds = subst (λ (c : login.Cluster). login_putting.put room fuel queue c ≡ Some (R g.now new)) same g.holds })
       by false h rest f = misses h (by_ticket rest letter.ticket f)
 
-  -- so it stays sound
-  pub puts_sound : (queue : List Letter) (story : List (List login.Slot)) (w new : World) → TellAlike tells story → Puts tells queue w new → login_parts.Sound (with_queue (R story w) queue)
-      → Grown tells w.slots story (λ now. login_parts.Sound (R now new))
-  puts_sound queue story w new alike (fuel, e) s =
+  -- so it goes on
+  pub puts_sound : (base : List login.Slot) (queue : List Letter) (story : List (List login.Slot)) (w new : World) → TellAlike tells story → Puts tells queue w new → Going base (with_queue (R story w) queue)
+      → Grown tells w.slots story (λ now. Going base (R now new))
+  puts_sound base queue story w new alike (fuel, e) s =
       let g = seen_puts fuel queue story w new alike e in
-      let m = puts_may room fuel queue (R story w) (R g.now new) g.holds s in
-      record { now = g.now; alike = g.alike; grows = g.grows; disks = g.disks; holds = subst login_parts.Sound m.2 (login_kept.all_kept (with_queue (R story w) queue) m.0 m.1 s) }
+      let m = puts_may room fuel queue (R story w) (R g.now new) g.holds s.sound in
+      record { now = g.now; alike = g.alike; grows = g.grows; disks = g.disks; holds = subst (Going base) m.2 (all_going base (with_queue (R story w) queue) m.0 m.1 s) }
 
   -- As the whole machine sees it: letters of nodes that are up are sent.
   pub record Sender (slots : List whole.Slot) (letter : Letter) : Type 0 where
@@ -259,28 +262,29 @@ module _ (tells : Bool) where
   pub puts_disks : (queue : List Letter) (w new : World) → Puts tells queue w new → SameDisks w.slots new.slots
   puts_disks queue w new (fuel, e) = put_disks fuel queue w new e
 
-pub through_on : (a b c : whole_world.World) (first second : List whole_world.World) → SeesThrough a first b → SeesThrough b second c → SeesThrough a (first ++ second) c
-through_on a b c [] second is q = subst (λ (w : whole_world.World). SeesThrough w second c) is q
-through_on a b c (mid ∷ first) second (one, more) q = (one, through_on mid b c first second more q)
-
-pub sees_on : (a b c : whole_world.World) → SeesReading a b → SeesReading b c → SeesReading a c
-sees_on a b c p q = (p.0 ++ q.0, through_on a b c p.0 q.0 p.1 q.1)
-
-pub sees_same : (a b : whole_world.World) → b ≡ a → SeesReading a b
-sees_same a b e = ([], e)
-
-pub sees_one : (a b : whole_world.World) → SeesOne a b → SeesReading a b
-sees_one a b one = (b ∷ [], (one, refl))
+-- As messages see it, letters of these calls are sent; and the whole machine sees no node change.
+pub record Sent (w new : World) : Type 0 where
+  pub goes : GoesOnReading (mail_world_of w) (mail_world_of new)
+  pub slots : map whole_slot new.slots ≡ map whole_slot w.slots
 
 module _ (tells : Bool) where
-  put_sees : (fuel : ℕ) (queue : List Letter) (w new : World) → put tells fuel queue w ≡ Some new → ((letter : Letter) → Among letter queue → Sender tells (map whole_slot w.slots) letter)
-      → SeesReading (whole_world_of w) (whole_world_of new)
-  put_sees fuel [] w new e sends = sees_same (whole_world_of w) (whole_world_of new) (sym (ap whole_world_of (some_is w new e)))
+  letter_of : (w : World) (letter : Letter) → Sender tells (map whole_slot w.slots) letter → has_room w.flying letter ≡ true → IsReadLetter (mail_world_of w) letter
+  letter_of w letter s room_ = record {
+    body = body_reads letter.body s.goes.body;
+    other = λ e. s.goes.to (e ∙ s.goes.from);
+    node = s.node.mail;
+    disk = s.disk;
+    up = subst (λ (n : ℕ). mail_cluster.slot_at (mail_world_of w).slots n ≡ Some (mail_deeds.slot_up s.node.mail s.disk)) (sym s.goes.from) (mail_here (map whole_slot w.slots) s.own (whole_world.slot_up s.node s.disk) s.up);
+    room = room_;
+  }
+
+  put_goes : (fuel : ℕ) (queue : List Letter) (w new : World) → put tells fuel queue w ≡ Some new → ((letter : Letter) → Among letter queue → Sender tells (map whole_slot w.slots) letter) → Sent w new
+  put_goes fuel [] w new e sends = subst (Sent w) (some_is w new e) (record { goes = record { letters = []; sends = refl }; slots = refl })
     where
       some_is : (a b : World) → Some a ≡ Some b → a ≡ b
       some_is a b p = cc
-  put_sees zero (letter ∷ queue) w new e sends = absurd (cc e)
-  put_sees (suc fuel) (letter ∷ queue) w new e sends = by (has_room w.flying letter) (λ q v f s. put_sees fuel q v new f s) e
+  put_goes zero (letter ∷ queue) w new e sends = absurd (cc e)
+  put_goes (suc fuel) (letter ∷ queue) w new e sends = by (has_room w.flying letter) refl (λ q v f s. put_goes fuel q v new f s) e
     where
       m : Missed
       m = missed tells Crowded w.slots letter
@@ -288,17 +292,18 @@ module _ (tells : Bool) where
       seen : MissedSeen tells Crowded w.slots letter
       seen = missed_seen tells Crowded w.slots letter
 
-      by : (b : Bool) → ((q : List Letter) (v : World) → put tells fuel q v ≡ Some new → ((one : Letter) → Among one q → Sender tells (map whole_slot v.slots) one) → SeesReading (whole_world_of v) (whole_world_of new))
-          → (if b then put tells fuel queue (with_letter w letter) else put tells fuel (queue ++ m.out) (record w { slots = m.slots })) ≡ Some new → SeesReading (whole_world_of w) (whole_world_of new)
-      by true rest f =
-          let s = sends letter (inl refl) in
-          sees_on (whole_world_of w) (whole_world_of (with_letter w letter)) (whole_world_of new)
-          (sees_one (whole_world_of w) (whole_world_of (with_letter w letter)) (Sends s.own s.node s.disk letter s.up s.goes refl))
-          (rest queue (with_letter w letter) f (λ one k. sends one (inr k)))
-      by false rest f = sees_on (whole_world_of w) (whole_world_of (record w { slots = m.slots })) (whole_world_of new)
-          (sees_same (whole_world_of w) (whole_world_of (record w { slots = m.slots })) (ap (λ (s : List whole.Slot). record (whole_world_of w) { slots = s }) seen.same))
-          (rest (queue ++ m.out) (record w { slots = m.slots }) f (λ one k. subst (λ (s : List whole.Slot). Sender tells s one) (sym seen.same)
-          (⊎_elim (λ old. sends one (inr old)) (λ new_. seen.sends one new_) (among_either one queue m.out k))))
+      by : (b : Bool) → has_room w.flying letter ≡ b → ((q : List Letter) (v : World) → put tells fuel q v ≡ Some new → ((one : Letter) → Among one q → Sender tells (map whole_slot v.slots) one) → Sent v new)
+          → (if b then put tells fuel queue (with_letter w letter) else put tells fuel (queue ++ m.out) (record w { slots = m.slots })) ≡ Some new → Sent w new
+      by true free rest f =
+          let g = rest queue (with_letter w letter) f (λ one k. sends one (inr k)) in
+          record { goes = record { letters = letter ∷ g.goes.letters; sends = (letter_of w letter (sends letter (inl refl)) free, g.goes.sends) }; slots = g.slots }
+      by false full rest f =
+          let g = rest (queue ++ m.out) (record w { slots = m.slots }) f (λ one k. subst (λ (s : List whole.Slot). Sender tells s one) (sym seen.same)
+          (⊎_elim (λ old. sends one (inr old)) (λ new_. seen.sends one new_) (among_either one queue m.out k))) in
+          record {
+            goes = subst (λ (v : mail.World). GoesOnReading v (mail_world_of new)) (ap (λ (s : List whole.Slot). record (mail_world_of w) { slots = map whole.mail_slot s }) seen.same) g.goes;
+            slots = g.slots ∙ seen.same;
+          }
 
-  pub puts_see : (queue : List Letter) (w new : World) → Puts tells queue w new → ((letter : Letter) → Among letter queue → Sender tells (map whole_slot w.slots) letter) → SeesReading (whole_world_of w) (whole_world_of new)
-  puts_see queue w new (fuel, e) sends = put_sees fuel queue w new e sends
+  pub puts_go : (queue : List Letter) (w new : World) → Puts tells queue w new → ((letter : Letter) → Among letter queue → Sender tells (map whole_slot w.slots) letter) → Sent w new
+  puts_go queue w new (fuel, e) sends = put_goes fuel queue w new e sends

@@ -8,7 +8,7 @@ use Rattle.object_model.specs.Letters.LoginWord.{Named, Wrong}
 use Rattle.object_model.specs.Letters.Body.{File, Filed, LoginAsk, LoginTold, ListAsk, ListTold, FetchAsk, FetchTold, Strike, StrikeTold, Unlock, Push, PushAck, Retire, Group, Join, Install, Report, ReportAck}
 use Rattle.login_model.specs.Cluster as login
 use Rattle.login_model.specs.Readings.{ReadTicket}
-use Rattle.login_model.specs.Locks.{Held, holder_beside, released}
+use Rattle.object_model.specs.Locks.{Held, holder_beside, released}
 use Rattle.login_model.specs.Rules as login_rules
 use Rattle.login_model.specs.Rules.{IsWordOf, judge, first_stamp, idle, answering, hear_told, told_at, read_at, mishap, befell_at}
 use Rattle.login_model.specs.NodeLaws as login_laws
@@ -27,13 +27,13 @@ alone_self node = record { alone = record { boot = refl; epoch = refl; manager =
 pub begins_alone : (own : ℕ) (node : login.Node) (did : login_rules.ReadDid) → Alone node (login_rules.begin_read own node did).node
 begins_alone own node did = record { alone = record { boot = refl; epoch = refl; manager = refl; named = refl; tells = refl }; calls = omega arith }
 
-pub told_alone : (own : ℕ) (node : login.Node) (letter : Letter) (mine : List ToldItem) → Alone node (hear_told own node letter mine).node
+pub told_alone : (own : ℕ) (node : login.Node) (letter : Letter) (mine : List ToldItem) → Alone node (hear_told own node letter mine).node × ((hear_told own node letter mine).node.calls ≡ node.calls)
 told_alone own node letter mine = by letter.ticket (read_at own node letter.ticket)
   where
-    by : (number : Option Number) (ticket : Option ReadTicket) → Alone node (told_at own node letter mine number ticket).node
-    by None ticket = alone_self node
-    by (Some number) None = alone_self node
-    by (Some number) (Some ticket) = record { alone = record { boot = refl; epoch = refl; manager = refl; named = refl; tells = refl }; calls = le_refl node.calls }
+    by : (number : Option Number) (ticket : Option ReadTicket) → Alone node (told_at own node letter mine number ticket).node × ((told_at own node letter mine number ticket).node.calls ≡ node.calls)
+    by None ticket = (alone_self node, refl)
+    by (Some number) None = (alone_self node, refl)
+    by (Some number) (Some ticket) = (record { alone = record { boot = refl; epoch = refl; manager = refl; named = refl; tells = refl }; calls = le_refl node.calls }, refl)
 
 pub mishap_alone : (own : ℕ) (kind : MishapKind) (at : ℕ) (node : login.Node) (number : Number) → Alone node (mishap own kind at node number).node × ((mishap own kind at node number).node.calls ≡ node.calls)
 mishap_alone own kind at node number = by (read_at own node (Some number))
@@ -83,6 +83,7 @@ pub record HeardBy (plan : Plan) (tells : Bool) (own : ℕ) (node : Node) (disk 
   pub locks : Held
   pub hears : login_laws.Hears plan own (read_node tells node) disk letter body rule
   pub alone : Alone (read_node tells node) rule.node
+  pub calls : rule.node.calls ≡ node.whole.mail.calls
   pub is : did ≡ reacted node rule locks
 
 pub heard_by : (plan : Plan) (tells : Bool) (own : ℕ) (node : Node) (disk : List Record) (letter : Letter) (body : Body) (did : Reaction) → Hears plan tells own node disk letter body did
@@ -92,6 +93,7 @@ heard_by plan tells own node disk letter (LoginAsk user proof) did is = record {
   locks = (judged_for plan (read_node tells node) user proof letter.ticket node.locks).locks;
   hears = ((judged_for plan (read_node tells node) user proof letter.ticket node.locks).word, word_for plan (read_node tells node) user proof letter.ticket node.locks, refl);
   alone = alone_self (read_node tells node);
+  calls = refl;
   is = is;
 }
 heard_by plan tells own node disk letter (ListAsk user) did (mine, lists, is) = record {
@@ -99,6 +101,7 @@ heard_by plan tells own node disk letter (ListAsk user) did (mine, lists, is) = 
   locks = node.locks;
   hears = (mine, lists, refl);
   alone = alone_self (read_node tells node);
+  calls = refl;
   is = is;
 }
 heard_by plan tells own node disk letter (FetchAsk user id at most) did (part, says, is) = record {
@@ -106,27 +109,31 @@ heard_by plan tells own node disk letter (FetchAsk user id at most) did (part, s
   locks = node.locks;
   hears = (part, says, refl);
   alone = alone_self (read_node tells node);
+  calls = refl;
   is = is;
 }
 heard_by plan tells own node disk letter (LoginTold word) did (mine, has_mine, is) = record {
   rule = hear_told own (read_node tells node) letter mine;
   locks = node.locks;
   hears = (mine, has_mine, refl);
-  alone = told_alone own (read_node tells node) letter mine;
+  alone = (told_alone own (read_node tells node) letter mine).0;
+  calls = (told_alone own (read_node tells node) letter mine).1;
   is = is;
 }
 heard_by plan tells own node disk letter (ListTold items) did is = record {
   rule = hear_told own (read_node tells node) letter [];
   locks = node.locks;
   hears = refl;
-  alone = told_alone own (read_node tells node) letter [];
+  alone = (told_alone own (read_node tells node) letter []).0;
+  calls = (told_alone own (read_node tells node) letter []).1;
   is = is;
 }
 heard_by plan tells own node disk letter (FetchTold part) did is = record {
   rule = hear_told own (read_node tells node) letter [];
   locks = node.locks;
   hears = refl;
-  alone = told_alone own (read_node tells node) letter [];
+  alone = (told_alone own (read_node tells node) letter []).0;
+  calls = (told_alone own (read_node tells node) letter []).1;
   is = is;
 }
 heard_by plan tells own node disk letter (Unlock user number) did is = record {
@@ -134,6 +141,7 @@ heard_by plan tells own node disk letter (Unlock user number) did is = record {
   locks = released user number node.locks;
   hears = refl;
   alone = alone_self (read_node tells node);
+  calls = refl;
   is = is;
 }
 heard_by plan tells own node disk letter (File id stamp targets users octets) did h = absurd h

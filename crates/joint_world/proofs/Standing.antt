@@ -1,25 +1,27 @@
 -- Whatever steps are made, all that stands goes on standing.
-use Rattle.std.proofs.Common.{◌≡◌, ◌≢◌, inl, inr, ⊎_elim, ℕ, arith, Bool, true, false, not, ◌&&◌, List, [], ◌∷◌, ◌++◌, append-nil, append_assoc, map, Option, Some, None, is_some, refl, sym, ap, ◌∙◌, subst, le_refl, true≢false}
+use Rattle.std.proofs.Common.{◌≡◌, inl, inr, ⊎_elim, ℕ, arith, Bool, true, false, not, ◌&&◌, List, [], ◌∷◌, ◌++◌, append-nil, append_assoc, map, Option, Some, None, is_some, refl, sym, ap, ◌∙◌, subst, true≢false}
 use Rattle.mail_model.specs.Plan.{Plan}
 use Rattle.mail_model.specs.Record.{Record}
 use Rattle.object_model.specs.Lists.{Among}
-use Rattle.object_model.specs.Mishaps.{MishapKind, no_mishaps, counted}
-use Rattle.object_model.specs.Mishaps.MishapKind.{FewMembers, Dropped, Stale as StaleKind, Down as DownKind, Disk}
-use Rattle.object_model.specs.Letters.{Number, ToldItem, Body, Letter}
+use Rattle.object_model.specs.Mishaps.{MishapKind}
+use Rattle.object_model.specs.Mishaps.MishapKind.{Dropped, Stale as StaleKind, Down as DownKind, Disk}
+use Rattle.object_model.specs.Letters.{Number, ToldItem, Body, Letter, is_read_body}
 use Rattle.object_model.specs.Letters.Body.{LoginAsk, LoginTold, ListAsk, ListTold, FetchAsk, FetchTold, Unlock}
 use Rattle.object_model.proofs.Lists.{same_some}
 use Rattle.cluster_model.specs.Cluster as mail_cluster
 use Rattle.cluster_model.specs.Cluster.{CallKind}
+use Rattle.cluster_model.specs.Steps.{NodeCall, asked_of}
 use Rattle.cluster_model.specs.Thrown.{answers_ticket}
 use Rattle.cluster_model.specs.World as mail
 use Rattle.cluster_model.specs.World.{letters_of}
 use Rattle.cluster_model.proofs.Stepping.{flew}
 use Rattle.whole_model.specs.Whole as whole_model
 use Rattle.whole_world.specs.World as whole_world
-use Rattle.whole_world.specs.Steps as whole
+use Rattle.whole_world.specs.Steps.{Step, Said, StepOutcome}
 use Rattle.whole_world.specs.Steps.Step.{OfMessages, OpenGroup, ConcludeGroup, ReportTo}
+use Rattle.whole_world.specs.Steps.StepOutcome.{Says, Refused, NoMemory}
 use Rattle.whole_world.specs.Makes as whole_makes
-use Rattle.whole_world.specs.Laws as whole_laws
+use Rattle.whole_world.specs.Makes.{MadeStep}
 use Rattle.whole_world.specs.Seen.{step_seen, outcome_seen}
 use Rattle.whole_world.proofs.Keeping.{apart}
 use Rattle.whole_world.proofs.Stepping.{makes_stand}
@@ -31,42 +33,37 @@ use Rattle.login_model.specs.Progress.{ask_read}
 use Rattle.login_model.specs.Progress.ReadAsk.{Pending}
 use Rattle.login_model.specs.Facts.{IsReadBody, NodesWait}
 use Rattle.login_model.specs.Moves as login_moves
-use Rattle.login_model.specs.Parts as login_parts
 use Rattle.login_model.specs.NodeLaws as login_laws
 use Rattle.login_model.specs.NodeLaws.{HasMine}
-use Rattle.login_model.proofs.Kept as login_kept
 use Rattle.login_model.proofs.Asking.{pending_waits}
 use Rattle.login_model.proofs.Hears as login_hears
 use Rattle.login_model.proofs.Hears.{hears_acts}
 use Rattle.login_model.proofs.Begins.{login_acts, fetch_acts, end_acts, give_up_acts, leave_acts}
 use Rattle.login_model.proofs.Others.{other_acts}
 use Rattle.login_model.proofs.Lost.{heard_may}
-use Rattle.login_model.proofs.Going.{login_goes, fetch_goes, give_up_goes, leave_goes, hears_goes}
 use Rattle.joint_model.specs.Joint.{Node, Slot, slot_at, with_slot, slot_up, whole_slot, read_node, read_slot}
 use Rattle.joint_model.specs.Moves as joint_moves
-use Rattle.joint_model.proofs.Kept.{whole_here, read_here, read_set}
+use Rattle.joint_model.proofs.Kept.{read_here, read_set}
 use Rattle.joint_model.proofs.Settled.{read_back}
 use Rattle.joint_world.specs.World.{World, cluster_of, whole_world_of, mail_world_of, reads_of, IsUp}
-use Rattle.joint_world.specs.Rules.{Reaction, judged_here, asked_of}
+use Rattle.joint_world.specs.Rules.{Reaction, judged_here}
 use Rattle.joint_world.specs.Putting.{missed, Puts}
-use Rattle.joint_world.specs.Steps.{ReadCall, Step, Said, StepOutcome}
-use Rattle.joint_world.specs.Steps.StepOutcome.{Says, Refused, NoMemory}
 use Rattle.joint_world.specs.Staying.{IsForMail, IsForWhole, ReadsStay}
-use Rattle.joint_world.specs.Makes.{Does, Loses, refused, fallen, HasTicket, learnt, is_late_read, IsFetchAsk, BeginsRead, AnswersRead, GivesUpRead, PostsRead, DoesStep, MakesStep, MadeStep, MakesAll}
+use Rattle.joint_world.specs.Makes.{Does, Loses, refused, fallen, HasTicket, learnt, is_late_read, BeginsRead, AnswersRead, GivesUpRead, PostsRead, DoesStep, MakesStep, MakesAll}
 use Rattle.joint_world.specs.Makes.BeginsRead.{FailsAtOnce, BeginsLogin, BeginsFetch, FailsReading, Leaves}
 use Rattle.joint_world.specs.Makes.AnswersRead.{Waits, Ends}
 use Rattle.joint_world.specs.Makes.PostsRead.{NobodyUp, OfOtherEpoch, TooLate, IsHeard, FailsHearing}
 use Rattle.joint_world.specs.Makes.DoesStep.{ForWhole, Begins, Asks, GivesUp, Posts, Drops}
-use Rattle.joint_world.specs.Seen.{SeesReading, SeesStep}
-use Rattle.joint_world.specs.Seen.SeesOne.{Refuses}
 use Rattle.joint_world.specs.Laws.{TellAlike, IsFront, HasFronts, Stands, HasGrown}
-use Rattle.joint_world.proofs.Keeping.{through_keeps}
-use Rattle.joint_world.proofs.Calm.{IsCalm, grows_in, makes_calm}
-use Rattle.joint_world.proofs.Views.{mail_at, mail_back, whole_set, login_same, alike_more, SameDisks, disks_self, disks_on, disks_write, OfDisks, of_disks, of_disks_on}
-use Rattle.joint_world.proofs.Beside.{besides}
+use Rattle.joint_world.proofs.Bodies.{read_body}
+use Rattle.joint_world.proofs.Calm.{IsCalm, grows_in}
+use Rattle.joint_world.proofs.CalmSteps.{makes_calm}
+use Rattle.joint_world.proofs.Views.{mail_at, mail_back, login_same, alike_more, SameDisks, disks_self, disks_on, disks_write, OfDisks, of_disks, of_disks_on}
+use Rattle.joint_world.proofs.Beside.{is_beside, besides}
 use Rattle.joint_world.proofs.Rules.{alone_self, begins_alone, ends_alone, word_here, heard_by}
-use Rattle.joint_world.proofs.Putting.{sees_on, sees_same, sees_one}
-use Rattle.joint_world.proofs.Reading.{Kept, left_of, others_of, does_sound, heard_sound, lost_sound, fell_sound, does_sees, taken_sees, missed_sees, loses_sees, heard_sees, fell_sees}
+use Rattle.joint_world.proofs.Reading.{Kept, left_of, others_of, does_sound, heard_sound, lost_sound, fell_sound}
+use Rattle.joint_world.proofs.SameStep.{makes_same}
+use Rattle.joint_world.proofs.Since.{Keeps, Going, going_self, going_on, all_going, beside_keeps}
 
 -- a letter that is late is heard by the rule that does nothing
 module _ (plan : Plan) (tells : Bool) (own : ℕ) (node : Node) (disk : List Record) (letter : Letter) where
@@ -110,85 +107,26 @@ module _ (plan : Plan) (tells : Bool) (own : ℕ) (node : Node) (disk : List Rec
   late_hears (Unlock user number) of late = absurd (unanswered late)
   late_hears body of late = absurd of
 
-asks_read : (body : Body) → IsFetchAsk body → IsReadBody body
-asks_read (FetchAsk user id at most) of = tt
-asks_read body of = absurd of
-
 module _ (plan : Plan) (tells : Bool) (old : World) where
   abbrev W : World → whole_world.World
   W w = whole_world_of w
-
-  -- What the whole machine sees of calls that read needs of the world that no letter flies to its sender.
-  module _ (stands : whole_laws.Stands plan (W old)) where
-    others : (number : ℕ) (flies : mail.Flies (mail_world_of old) number) → flies.letter.from ≢ flies.letter.to
-    others number flies = apart plan (W old) stands flies.letter (flew (mail_world_of old) number flies)
-
-    begins_sees : (own : ℕ) (call : ReadCall) (said : Said) (new : World) → BeginsRead plan tells old own call said new → SeesReading (W old) (W new)
-    begins_sees own call said new (FailsAtOnce node disk kind up fails says is) = sees_one (W old) (W new) (Refuses own node.whole disk kind (counted FewMembers no_mishaps) (whole_here old.slots own (slot_up node disk) up)
-        (ap whole_world_of is ∙ ap (λ (s : List whole_model.Slot). record (W old) { slots = s }) (whole_set old.slots own (slot_up (refused kind node disk) disk))))
-    begins_sees own call said new (BeginsLogin node disk user proof up is did l says does) = does_sees tells old own node disk up
-        (begin_read own (read_node tells node) (begin_login (under own (read_node tells node) (next_number own (read_node tells node))) user proof l.manager (judged_here plan tells own node user proof).word l.mine)) _ (omega arith)
-        (λ letter m. login_goes (under own (read_node tells node) (next_number own (read_node tells node))) user proof l.manager (judged_here plan tells own node user proof).word l.mine letter m)
-        new (subst (λ (r : Reaction). Does tells old own disk r new) l.is does)
-    begins_sees own call said new (BeginsFetch node disk user id at most holders up is did f says does) = does_sees tells old own node disk up
-        (begin_read own (read_node tells node) (begin_fetch (under own (read_node tells node) (next_number own (read_node tells node))) user id at most (asked_of node holders) f.part)) _ (omega arith)
-        (λ letter m. fetch_goes (under own (read_node tells node) (next_number own (read_node tells node))) user id at most (asked_of node holders) f.part letter m)
-        new (subst (λ (r : Reaction). Does tells old own disk r new) f.is does)
-    begins_sees own call said new (FailsReading node disk user id at most holders up is own_holds says is_new) = subst (λ (w : World). SeesReading (W old) (W w)) (sym is_new) (fell_sees tells old own node disk up)
-    begins_sees own call said new (Leaves node disk user number manager up is says does) = does_sees tells old own node disk up (leave own (read_node tells node) user number manager) _ (le_refl node.whole.mail.calls)
-        (λ letter m. leave_goes own (read_node tells node) user number manager letter m) new does
-
-    answers_sees : (number : Number) (said : Said) (new : World) → AnswersRead tells old number said new → SeesReading (W old) (W new)
-    answers_sees number said new (Waits one got wanted e says is) = sees_same (W old) (W new) (ap whole_world_of is)
-    answers_sees number said new (Ends one answer e says does) = does_sees tells old number.node one.node one.disk one.up (end_read (read_node tells one.node) number.seq) _ (le_refl one.node.whole.mail.calls) (λ letter m. absurd m) new does
-
-    gives_up_sees : (number : Number) (said : Said) (new : World) → GivesUpRead tells old number said new → SeesReading (W old) (W new)
-    gives_up_sees number said new g = does_sees tells old number.node g.one.node g.one.disk g.one.up (give_up_read number.node (read_node tells g.one.node) number g.one.ticket.reading) _ (le_refl g.one.node.whole.mail.calls)
-        (λ letter m. give_up_goes (under number.node (read_node tells g.one.node) number) g.one.ticket.reading letter m) new g.does
-
-    posts_sees : (number : ℕ) (keep : Bool) (said : Said) (new : World) → PostsRead plan tells old number keep said new → SeesReading (W old) (W new)
-    posts_sees number keep said new (NobodyUp flies of nobody says loses) = loses_sees tells old DownKind number flies keep of new loses
-    posts_sees number keep said new (OfOtherEpoch flies node disk of up stale says loses) = loses_sees tells old StaleKind number flies keep of new loses
-    posts_sees number keep said new (TooLate flies node disk of up fresh late says is) = subst (λ (w : World). SeesReading (W old) (W w)) (sym is) (taken_sees tells old number flies keep of)
-    posts_sees number keep said new (IsHeard flies node disk of up fresh in_time says did hears does) =
-        let h = heard_by plan tells flies.letter.to (learnt node flies.letter.body) disk flies.letter flies.letter.body did hears in
-        heard_sees tells old number flies keep of node disk up h.rule h.locks h.alone.calls
-        (λ letter m. hears_goes plan flies.letter.to (read_node tells node) disk flies.letter h.rule refl (others number flies) h.hears letter m)
-        new (subst (λ (r : Reaction). Does tells (record old { flying = mail.flies_on (mail_world_of old) number flies keep }) flies.letter.to disk r new) h.is does)
-    posts_sees number keep said new (FailsHearing flies node disk of up fresh says down is puts) =
-        sees_on (W old) (W less) (W new) (taken_sees tells old number flies keep (asks_read flies.letter.body of))
-        (sees_on (W less) (W down) (W new)
-        (subst (λ (w : World). SeesReading (W less) (W w)) (sym is) (fell_sees tells less flies.letter.to node disk up))
-        (missed_sees tells down Disk down.slots flies.letter (record down { slots = (missed tells Disk down.slots flies.letter).slots }) new refl puts))
-      where
-        less : World
-        less = record old { flying = mail.flies_on (mail_world_of old) number flies keep }
-
-    -- a step of a call that reads, or one of theirs
-    does_sees_step : (step : Step) (said : Said) (new : World) → DoesStep plan tells old step said new → SeesStep plan tells (W old) (W new)
-    does_sees_step step said new (ForWhole one is answer says for_whole made stay) = inl (one, whole.StepOutcome.Says answer, made)
-    does_sees_step step said new (Begins n call is b) = inr (begins_sees n call said new b)
-    does_sees_step step said new (Asks number is stands_ a) = inr (answers_sees number said new a)
-    does_sees_step step said new (GivesUp number is stands_ g) = inr (gives_up_sees number said new g)
-    does_sees_step step said new (Posts number keep is p) = inr (posts_sees number keep said new p)
-    does_sees_step step said new (Drops number is d) = inr (loses_sees tells old Dropped number d.flies false d.read new d.loses)
-
-    pub makes_sees : (step : Step) (outcome : StepOutcome) (new : World) → MakesStep plan tells old step outcome new → SeesStep plan tells (W old) (W new)
-    makes_sees step (Says said) new m = does_sees_step step said new m.1
-    makes_sees step (Refused fault) new m = inr (sees_same (W old) (W new) (ap whole_world_of m.1))
-    makes_sees step (NoMemory None) new m = inr (sees_same (W old) (W new) (ap whole_world_of m))
-    makes_sees step (NoMemory (Some n)) new m = inl (m.one, whole.StepOutcome.NoMemory (Some n), m.runs)
 
   module _ (story : List (List login.Slot)) (stands : Stands plan tells story old) where
     abbrev R : List (List login.Slot) → World → login.Cluster
     R s w = reads_of tells s w
 
+    abbrev pub Base : List login.Slot
+    Base = map (read_slot tells) old.slots
+
+    starts : Going Base (R story old)
+    starts = going_self (R story old) stands.reads
+
     abbrev Goal : World → Type 0
-    Goal new = Kept tells story old new
+    Goal new = Kept Base tells story old new
 
     same_sound : (new : World) → new ≡ old → Goal new
     same_sound new is = record {
-      grown = record { now = story; alike = stands.alike; grows = λ moment m. m; disks = λ moment m. inl m; holds = subst (λ (w : World). login_parts.Sound (R story w)) (sym is) stands.reads };
+      grown = record { now = story; alike = stands.alike; grows = λ moment m. m; disks = λ moment m. inl m; holds = subst (λ (w : World). Going Base (R story w)) (sym is) starts };
       disks = subst (λ (w : World). SameDisks old.slots w.slots) (sym is) (disks_self old.slots);
     }
 
@@ -200,10 +138,10 @@ module _ (plan : Plan) (tells : Bool) (old : World) where
         alike = alike_more tells story turned stands.alike;
         grows = λ moment m. inr m;
         disks = λ moment m. ⊎_elim (λ e. inr (subst (OfDisks old.slots) e (of_disks tells old.slots turned same))) (λ stood. inl stood) m;
-        holds = subst (λ (x : List login.Slot). login_parts.Sound (record { slots = x; flying = letters_of old.flying; story = x ∷ story })) (sym (read_set tells old.slots own now))
-            (subst (λ (f : List Letter). login_parts.Sound (record { slots = login.with_slot (map (read_slot tells) old.slots) own (read_slot tells now); flying = f; story = login.with_slot (map (read_slot tells) old.slots) own (read_slot tells now) ∷ story }))
+        holds = subst (λ (x : List login.Slot). Going Base (record { slots = x; flying = letters_of old.flying; story = x ∷ story })) (sym (read_set tells old.slots own now))
+            (subst (λ (f : List Letter). Going Base (record { slots = login.with_slot (map (read_slot tells) old.slots) own (read_slot tells now); flying = f; story = login.with_slot (map (read_slot tells) old.slots) own (read_slot tells now) ∷ story }))
             (append-nil (letters_of old.flying))
-            (login_kept.kept (login_moves.Move.Acted act) (R story old) (read_here tells old.slots own (slot_up node disk) up, (λ ready. (acts ready).is), λ letter e. absurd (cc e)) stands.reads));
+            (going_on Base (login_moves.Move.Acted act) (R story old) (read_here tells old.slots own (slot_up node disk) up, (λ ready. (acts ready).is), λ letter e. absurd (cc e)) starts));
       };
       disks = same;
     }
@@ -223,40 +161,43 @@ module _ (plan : Plan) (tells : Bool) (old : World) where
         acts : login_moves.IsReady own (login.slot_up (read_node tells node) disk) None → login_moves.IsCallDone act
         acts ready = other_acts own (read_node tells node) (read_node tells (refused kind node disk)) disk disk None [] refl (omega arith) refl refl (λ letter e. absurd (cc e)) (λ letter m. absurd m) ready
 
-    begins_sound : (own : ℕ) (call : ReadCall) (said : Said) (new : World) → BeginsRead plan tells old own call said new → Goal new
+    begins_sound : (own : ℕ) (call : NodeCall) (said : Said) (new : World) → BeginsRead plan tells old own call said new → Goal new
     begins_sound own call said new (FailsAtOnce node disk kind up fails says is) = subst Goal (sym is) (refused_sound own node disk kind up)
-    begins_sound own call said new (BeginsLogin node disk user proof up is did l says does) = does_sound tells story old stands.alike stands.reads own node disk up
+    begins_sound own call said new (BeginsLogin node disk user proof up is did l says does) = does_sound tells Base story old stands.alike starts own node disk up
         (begin_read own (read_node tells node) (begin_login (under own (read_node tells node) (next_number own (read_node tells node))) user proof l.manager (judged_here plan tells own node user proof).word l.mine)) _
         (begins_alone own (read_node tells node) (begin_login (under own (read_node tells node) (next_number own (read_node tells node))) user proof l.manager (judged_here plan tells own node user proof).word l.mine))
         (λ ready. login_acts plan own (read_node tells node) disk user proof l.manager (judged_here plan tells own node user proof).word l.mine l.managed
         (λ at. word_here plan (read_node tells node) user proof (next_number own (read_node tells node)) node.locks) l.lists ready)
         new (subst (λ (r : Reaction). Does tells old own disk r new) l.is does)
-    begins_sound own call said new (BeginsFetch node disk user id at most holders up is did f says does) = does_sound tells story old stands.alike stands.reads own node disk up
-        (begin_read own (read_node tells node) (begin_fetch (under own (read_node tells node) (next_number own (read_node tells node))) user id at most (asked_of node holders) f.part)) _
-        (begins_alone own (read_node tells node) (begin_fetch (under own (read_node tells node) (next_number own (read_node tells node))) user id at most (asked_of node holders) f.part))
-        (λ ready. fetch_acts own (read_node tells node) disk user id at most (asked_of node holders) f.part f.some f.says ready)
+    begins_sound own call said new (BeginsFetch node disk user id at most holders up is did f says does) = does_sound tells Base story old stands.alike starts own node disk up
+        (begin_read own (read_node tells node) (begin_fetch (under own (read_node tells node) (next_number own (read_node tells node))) user id at most (asked_of node.whole.mail holders) f.part)) _
+        (begins_alone own (read_node tells node) (begin_fetch (under own (read_node tells node) (next_number own (read_node tells node))) user id at most (asked_of node.whole.mail holders) f.part))
+        (λ ready. fetch_acts own (read_node tells node) disk user id at most (asked_of node.whole.mail holders) f.part f.some f.says ready)
         new (subst (λ (r : Reaction). Does tells old own disk r new) f.is does)
-    begins_sound own call said new (FailsReading node disk user id at most holders up is own_holds says is_new) = subst Goal (sym is_new) (fell_sound tells story old stands.alike stands.reads own node disk up)
-    begins_sound own call said new (Leaves node disk user number manager up is says does) = does_sound tells story old stands.alike stands.reads own node disk up
+    begins_sound own call said new (FailsReading node disk user id at most holders up is own_holds says is_new) = subst Goal (sym is_new) (fell_sound tells Base story old stands.alike starts own node disk up)
+    begins_sound own call said new (Leaves node disk user number manager up is says does) = does_sound tells Base story old stands.alike starts own node disk up
         (leave own (read_node tells node) user number manager) _ (alone_self (read_node tells node)) (λ ready. leave_acts own (read_node tells node) disk ready user number manager) new does
 
     answers_sound : (number : Number) (said : Said) (new : World) → AnswersRead tells old number said new → Goal new
     answers_sound number said new (Waits one got wanted e says is) = same_sound new is
-    answers_sound number said new (Ends one answer e says does) = does_sound tells story old stands.alike stands.reads number.node one.node one.disk one.up
+    answers_sound number said new (Ends one answer e what answers says does) = does_sound tells Base story old stands.alike starts number.node one.node one.disk one.up
         (end_read (read_node tells one.node) number.seq) _ (ends_alone (read_node tells one.node) number.seq) (λ ready. end_acts number.node (read_node tells one.node) one.disk ready number.seq) new does
 
+    pub answers_disks : (number : Number) (said : Said) (new : World) → AnswersRead tells old number said new → SameDisks old.slots new.slots
+    answers_disks number said new a = (answers_sound number said new a).disks
+
     gives_up_sound : (number : Number) (said : Said) (new : World) → GivesUpRead tells old number said new → Goal new
-    gives_up_sound number said new g = does_sound tells story old stands.alike stands.reads number.node g.one.node g.one.disk g.one.up
+    gives_up_sound number said new g = does_sound tells Base story old stands.alike starts number.node g.one.node g.one.disk g.one.up
         (give_up_read number.node (read_node tells g.one.node) number g.one.ticket.reading) _ (ends_alone (read_node tells g.one.node) number.seq)
         (λ ready. give_up_acts number.node (read_node tells g.one.node) g.one.disk ready number g.one.ticket.reading) new g.does
 
     loses_sound : (kind : MishapKind) (number : ℕ) (flies : mail.Flies (mail_world_of old) number) (keep : Bool) (new : World) → Loses tells kind old number flies keep new → Goal new
-    loses_sound kind number flies keep new loses = lost_sound tells story old stands.alike stands.reads kind flies.letter (letters_of (mail.flies_on (mail_world_of old) number flies keep))
+    loses_sound kind number flies keep new loses = lost_sound tells Base story old stands.alike starts kind flies.letter (letters_of (mail.flies_on (mail_world_of old) number flies keep))
         (flew (mail_world_of old) number flies) (λ one m. left_of old number flies keep one m) (λ one m. others_of old number flies keep one m)
         (record old { slots = (missed tells kind old.slots flies.letter).slots; flying = mail.flies_on (mail_world_of old) number flies keep }) refl refl new loses
 
     -- a letter that is late
-    late_sound : (number : ℕ) (flies : mail.Flies (mail_world_of old) number) (keep : Bool) (node : Node) (disk : List Record) → IsUp old flies.letter.to node disk → IsReadBody flies.letter.body
+    late_sound : (number : ℕ) (flies : mail.Flies (mail_world_of old) number) (keep : Bool) (node : Node) (disk : List Record) → IsUp old flies.letter.to node disk → is_read_body flies.letter.body ≡ true
         → is_late_read flies.letter.to node flies.letter ≡ true → Goal (record old { flying = mail.flies_on (mail_world_of old) number flies keep })
     late_sound number flies keep node disk up of late = record {
       grown = record {
@@ -264,16 +205,16 @@ module _ (plan : Plan) (tells : Bool) (old : World) where
         alike = alike_more tells story old.slots stands.alike;
         grows = λ moment m. inr m;
         disks = λ moment m. ⊎_elim (λ e. inr (subst (OfDisks old.slots) e (of_disks tells old.slots old.slots (disks_self old.slots)))) (λ stood. inl stood) m;
-        holds = subst (λ (x : List login.Slot). login_parts.Sound (record { slots = x; flying = flying; story = x ∷ story })) (login_same (map (read_slot tells) old.slots) own (login.slot_up (read_node tells node) disk) there)
-            (subst (λ (f : List Letter). login_parts.Sound (record {
+        holds = subst (λ (x : List login.Slot). Going Base (record { slots = x; flying = flying; story = x ∷ story })) (login_same (map (read_slot tells) old.slots) own (login.slot_up (read_node tells node) disk) there)
+            (subst (λ (f : List Letter). Going Base (record {
               slots = login.with_slot (map (read_slot tells) old.slots) own (login.slot_up (read_node tells node) disk);
               flying = f;
               story = login.with_slot (map (read_slot tells) old.slots) own (login.slot_up (read_node tells node) disk) ∷ story;
             })) (append-nil flying)
-            (login_kept.all_kept (R story old) (login_moves.Move.Acted act ∷ login_moves.Move.Taken flies.letter (flying ++ []) ∷ [])
+            (all_going Base (R story old) (login_moves.Move.Acted act ∷ login_moves.Move.Taken flies.letter (flying ++ []) ∷ [])
             (heard_may (R story old) stands.reads act flies.letter flying there refl (flew (mail_world_of old) number flies) refl
-            (λ ready. hears_acts plan own (read_node tells node) disk flies.letter (idle (read_node tells node)) (late_hears plan tells own node disk flies.letter flies.letter.body of late) ready)
-            (λ one m. left_of old number flies keep one m) (λ one m. others_of old number flies keep one m)) stands.reads));
+            (λ ready. hears_acts plan own (read_node tells node) disk flies.letter (idle (read_node tells node)) (late_hears plan tells own node disk flies.letter flies.letter.body (read_body flies.letter.body of) late) ready)
+            (λ one m. left_of old number flies keep one m) (λ one m. others_of old number flies keep one m)) starts));
       };
       disks = disks_self old.slots;
     }
@@ -296,14 +237,14 @@ module _ (plan : Plan) (tells : Bool) (old : World) where
     posts_sound number keep said new (TooLate flies node disk of up fresh late says is) = subst Goal (sym is) (late_sound number flies keep node disk up of late)
     posts_sound number keep said new (IsHeard flies node disk of up fresh in_time says did hears does) =
         let h = heard_by plan tells flies.letter.to (learnt node flies.letter.body) disk flies.letter flies.letter.body did hears in
-        heard_sound tells story old stands.alike stands.reads number flies keep node disk up flies.letter.body h.rule h.locks h.alone
+        heard_sound tells Base story old stands.alike starts number flies keep node disk up flies.letter.body h.rule h.locks h.alone
         (λ ready. hears_acts plan flies.letter.to (read_node tells node) disk flies.letter h.rule h.hears ready)
         new (subst (λ (r : Reaction). Does tells (record old { flying = mail.flies_on (mail_world_of old) number flies keep }) flies.letter.to disk r new) h.is does)
     posts_sound number keep said new (FailsHearing flies node disk of up fresh says down is puts) =
-        let fell = fell_sound tells story old stands.alike stands.reads flies.letter.to node disk up in
+        let fell = fell_sound tells Base story old stands.alike starts flies.letter.to node disk up in
         let first : World = fallen old flies.letter.to disk in
         let slots : down.slots ≡ first.slots = ap (λ (w : World). w.slots) is in
-        let g = lost_sound tells fell.grown.now first fell.grown.alike fell.grown.holds Disk flies.letter (letters_of (mail.flies_on (mail_world_of old) number flies keep))
+        let g = lost_sound tells Base fell.grown.now first fell.grown.alike fell.grown.holds Disk flies.letter (letters_of (mail.flies_on (mail_world_of old) number flies keep))
         (flew (mail_world_of old) number flies) (λ one m. left_of old number flies keep one m) (λ one m. others_of old number flies keep one m)
         (record down { slots = (missed tells Disk down.slots flies.letter).slots }) (ap (λ (s : List Slot). (missed tells Disk s flies.letter).slots) slots) (ap (λ (w : World). letters_of w.flying) is) new
         (subst (λ (s : List Slot). Puts tells (missed tells Disk s flies.letter).out (record down { slots = (missed tells Disk down.slots flies.letter).slots }) new) slots puts) in
@@ -319,7 +260,7 @@ module _ (plan : Plan) (tells : Bool) (old : World) where
         }
 
     -- a step of the whole machine
-    for_seen : (one : whole.Step) → IsForWhole old one → IsForMail (mail_world_of old) (step_seen one)
+    for_seen : (one : Step) → IsForWhole old one → IsForMail (mail_world_of old) (step_seen one)
     for_seen (OfMessages step) of = of
     for_seen (OpenGroup n) of = tt
     for_seen (ConcludeGroup n) of = tt
@@ -330,7 +271,7 @@ module _ (plan : Plan) (tells : Bool) (old : World) where
       now : List (List login.Slot)
       alike : TellAlike tells now
       grows : HasGrown story now
-      holds : login_parts.Sound (R now new)
+      holds : Going Base (R now new)
       fronts : HasFronts now new.slots
 
     kept_story : (new : World) → Goal new → Story new
@@ -351,12 +292,15 @@ module _ (plan : Plan) (tells : Bool) (old : World) where
           (k.grown.disks moment m);
     }
 
-    whole_sound : (one : whole.Step) (outcome : whole.StepOutcome) (new : World) → IsForWhole old one → whole_makes.MakesStep plan tells (W old) one outcome (W new) → ReadsStay old new → Story new
+    whole_sound : (one : Step) (outcome : StepOutcome) (new : World) → IsForWhole old one → whole_makes.MakesStep plan tells (W old) one outcome (W new) → ReadsStay old new → Story new
     whole_sound one outcome new of made stay = record {
       now = map (read_slot tells) new.slots ∷ story;
       alike = alike_more tells story new.slots stands.alike;
       grows = λ moment m. inr m;
-      holds = besides tells story old new calm stay stands.reads;
+      holds = record {
+        sound = besides tells story old new calm stay stands.reads;
+        since = beside_keeps (R story old) (R (map (read_slot tells) new.slots ∷ story) new) stands.reads.order (is_beside tells story old new calm stay);
+      };
       fronts = λ moment m n slot at. ⊎_elim
           (λ e. itself n slot (subst (λ (s : List login.Slot). login.slot_at s n ≡ Some slot) (sym e) at))
           (λ was. grown n slot (stands.fronts moment was n slot at))
@@ -383,27 +327,27 @@ module _ (plan : Plan) (tells : Bool) (old : World) where
             (now.0, now.1, record { rest = front.rest ++ g.rest; is = disk ∙ ap (λ (d : List Record). d ++ g.rest) front.is ∙ append_assoc slot.disk front.rest g.rest })
 
     does_step_sound : (step : Step) (said : Said) (new : World) → DoesStep plan tells old step said new → Story new
-    does_step_sound step said new (ForWhole one is answer says for_whole made stay) = whole_sound one (whole.StepOutcome.Says answer) new for_whole made stay
+    does_step_sound step said new (ForWhole for_whole made stay) = whole_sound step (Says said) new for_whole made stay
     does_step_sound step said new (Begins n call is b) = kept_story new (begins_sound n call said new b)
     does_step_sound step said new (Asks number is stands_ a) = kept_story new (answers_sound number said new a)
     does_step_sound step said new (GivesUp number is stands_ g) = kept_story new (gives_up_sound number said new g)
-    does_step_sound step said new (Posts number keep is p) = kept_story new (posts_sound number keep said new p)
+    does_step_sound step said new (Posts number keep is of p) = kept_story new (posts_sound number keep said new p)
     does_step_sound step said new (Drops number is d) = kept_story new (loses_sound Dropped number d.flies false new d.loses)
 
     makes_sound : (step : Step) (outcome : StepOutcome) (new : World) → MakesStep plan tells old step outcome new → Story new
     makes_sound step (Says said) new m = does_step_sound step said new m.1
     makes_sound step (Refused fault) new m = kept_story new (same_sound new m.1)
     makes_sound step (NoMemory None) new m = kept_story new (same_sound new m)
-    makes_sound step (NoMemory (Some n)) new m = whole_sound m.one (whole.StepOutcome.NoMemory (Some n)) new m.for_whole m.runs m.stay
+    makes_sound step (NoMemory (Some n)) new m = whole_sound step (NoMemory (Some n)) new m.for_whole m.runs m.stay
 
-    makes_whole : (new : World) → SeesStep plan tells (W old) (W new) → whole_laws.Stands plan (W new)
-    makes_whole new (inl (one, outcome, made)) = makes_stand plan (W old) stands.whole tells one outcome (W new) made
-    makes_whole new (inr (between, through)) = through_keeps plan (W old) between (W new) through stands.whole
+    -- each ticket that was drawn is one of the same subject
+    pub makes_since : (step : Step) (outcome : StepOutcome) (new : World) → MakesStep plan tells old step outcome new → Keeps (map (read_slot tells) old.slots) (map (read_slot tells) new.slots)
+    makes_since step outcome new m = (makes_sound step outcome new m).holds.since
 
     pub makes_all_stand : (step : Step) (outcome : StepOutcome) (new : World) → MakesStep plan tells old step outcome new → (grown : List (List login.Slot)) × Stands plan tells grown new × HasGrown story grown
     makes_all_stand step outcome new m =
         let g = makes_sound step outcome new m in
-        (g.now, record { whole = makes_whole new (makes_sees stands.whole step outcome new m); reads = g.holds; alike = g.alike; fronts = g.fronts }, g.grows)
+        (g.now, record { whole = makes_stand plan (W old) stands.whole tells step outcome (W new) (makes_same plan tells story old stands step outcome new m); reads = g.holds.sound; alike = g.alike; fronts = g.fronts }, g.grows)
 
 pub all_stand : (plan : Plan) (tells : Bool) (old new : World) (steps : List MadeStep) (story : List (List login.Slot)) → MakesAll plan tells old steps new → Stands plan tells story old
     → (grown : List (List login.Slot)) × Stands plan tells grown new × HasGrown story grown
@@ -412,6 +356,13 @@ all_stand plan tells old new (made ∷ steps) story (mid, first, more) stands =
     let a = makes_all_stand plan tells old story stands made.step made.outcome mid first in
     let b = all_stand plan tells mid new steps a.0 more a.1 in
     (b.0, b.1, λ moment m. b.2 moment (a.2 moment m))
+
+pub all_same : (plan : Plan) (tells : Bool) (story : List (List login.Slot)) (old new : World) (steps : List MadeStep) → MakesAll plan tells old steps new → Stands plan tells story old
+    → whole_makes.MakesAll plan tells (whole_world_of old) steps (whole_world_of new)
+all_same plan tells story old new [] is stands = ap whole_world_of is
+all_same plan tells story old new (made ∷ steps) (mid, first, more) stands =
+    let a = makes_all_stand plan tells old story stands made.step made.outcome mid first in
+    (whole_world_of mid, makes_same plan tells story old stands made.step made.outcome mid first, all_same plan tells a.0 mid new steps more a.1)
 
 pub is_sound : (plan : Plan) (tells : Bool) (story : List (List login.Slot)) (w : World) → Stands plan tells story w → joint_moves.Sound plan.confirm (cluster_of tells story w)
 is_sound plan tells story w stands = record { whole = stands.whole.sound; reads = stands.reads }

@@ -34,6 +34,7 @@ listed_kept plan tells story w stands number one r named waiting told stage list
       record {
         state = backed.top;
         says = subst (Among (Stated (Message one.user item.id) backed.top)) (sym front.2.is) (among_front (Stated (Message one.user item.id) backed.top) was.slot.disk front.2.rest backed.inside);
+        here = backed.same_value;
         octets = copy.octets;
         holds = subst (Among (OctetsRecord item.id copy.octets)) (sym front.2.is) (among_front (OctetsRecord item.id copy.octets) was.slot.disk front.2.rest (octets_stand item.id copy.octets was.slot.disk copy.held));
         count = copy.size;

@@ -2,7 +2,7 @@
 use Rattle.std.proofs.Common.{◌≡◌, ◌⊎◌, inl, inr, ⊎_elim, ℕ, zero, suc, Bool, List, [], ◌∷◌, map, Option, Some, None, refl, sym, ap, ◌∙◌, subst}
 use Rattle.std.specs.Prelude.{slice_get, slice_set}
 use Rattle.mail_model.specs.Record.{Record}
-use Rattle.object_model.proofs.Lists.{get_after, get_before}
+use Rattle.object_model.proofs.Lists.{get_same, get_after, get_before}
 use Rattle.cluster_model.specs.Cluster as mail
 use Rattle.whole_model.specs.Whole as whole
 use Rattle.whole_model.proofs.Seen.{set_seen}
@@ -79,6 +79,15 @@ whole_there slots (suc k) a b e = get_set slots k e
     get_set [] j h = absurd (cc h)
     get_set (x ∷ xs) zero h = refl
     get_set (x ∷ xs) (suc j) h = get_set xs j h
+
+pub whole_after : (slots : List whole.Slot) (n m : ℕ) (x y z : whole.Slot) → whole.slot_at slots n ≡ Some x → whole.slot_at (whole.with_slot slots n y) m ≡ Some z → ((m ≡ n) × (z ≡ y)) ⊎ (whole.slot_at slots m ≡ Some z)
+whole_after slots zero m x y z h r = absurd (cc h)
+whole_after slots (suc n) zero x y z h r = absurd (cc r)
+whole_after slots (suc n) (suc m) x y z h r = ⊎_elim (λ p. inl (ap suc p.0, p.1)) (λ q. inr q) (get_after slots n m x y z h r)
+
+pub slot_there : (slots : List Slot) (n : ℕ) (a b : Slot) → slot_at slots n ≡ Some a → slot_at (with_slot slots n b) n ≡ Some b
+slot_there slots zero a b e = absurd (cc e)
+slot_there slots (suc k) a b e = get_same slots k a b e
 
 -- each moment of slots that calls that read see tells alike
 pub moment_alike : (tells : Bool) (slots : List Slot) (n : ℕ) (node : login.Node) (disk : List Record) → login.slot_at (map (read_slot tells) slots) n ≡ Some (login.slot_up node disk) → node.tells ≡ tells

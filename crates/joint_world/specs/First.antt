@@ -7,7 +7,7 @@ use Rattle.object_model.specs.Letters.{MapRow}
 use Rattle.cluster_model.specs.Starts.{first_epoch, first_membership}
 use Rattle.maps_model.specs.Words.{ManagersAreMembers}
 use Rattle.whole_world.specs.First as whole
-use Rattle.login_model.specs.Locks.{no_locks}
+use Rattle.object_model.specs.Locks.{no_locks}
 use Rattle.joint_model.specs.Joint.{Node, Slot, slot_up, read_slot}
 use Rattle.joint_world.specs.World.{World, whole_world_of}
 use Rattle.joint_world.specs.Laws.{Stands}

@@ -5,7 +5,7 @@ use Rattle.mail_model.specs.Record.{Record}
 use Rattle.object_model.specs.Lists.{Among}
 use Rattle.object_model.specs.Letters.{Number, Letter}
 use Rattle.cluster_model.specs.World.{letters_of}
-use Rattle.whole_world.specs.World as whole_world
+use Rattle.whole_world.specs.Makes.{MadeStep}
 use Rattle.whole_world.specs.Laws as whole
 use Rattle.login_model.specs.Cluster as login
 use Rattle.login_model.specs.Progress.{ask_read}
@@ -14,8 +14,7 @@ use Rattle.login_model.specs.Parts as login_parts
 use Rattle.joint_model.specs.Joint.{Slot, slot_at}
 use Rattle.joint_model.specs.Moves as joint
 use Rattle.joint_world.specs.World.{World, cluster_of, whole_world_of, reads_of}
-use Rattle.joint_world.specs.Makes.{MadeStep, MakesAll, HasTicket}
-use Rattle.joint_world.specs.Seen.{SeesReading}
+use Rattle.joint_world.specs.Makes.{MakesAll, HasTicket}
 
 -- Every node that is up at a moment has a disk that tells its octets, or none has.
 abbrev pub TellAlike : Bool → List (List login.Slot) → Type 0
@@ -49,10 +48,6 @@ StepsKeep = (plan : Plan) (tells : Bool) (old new : World) (steps : List MadeSte
 -- What stands is sound as a cluster of all three machines.
 abbrev pub StandsIsSound : Type 0
 StandsIsSound = (plan : Plan) (tells : Bool) (story : List (List login.Slot)) (w : World) → Stands plan tells story w → joint.Sound plan.confirm (cluster_of tells story w)
-
--- What the whole machine sees of calls that read keeps what stands in it.
-abbrev pub ReadingKeepsWhole : Type 0
-ReadingKeepsWhole = (plan : Plan) (old new : whole_world.World) → SeesReading old new → whole.Stands plan old → whole.Stands plan new
 
 -- A ticket of a call that reads which is pending has a letter of its own in flight: a call of which no letter flies is done.
 abbrev pub PendingHasLetter : Type 0

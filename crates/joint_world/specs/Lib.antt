@@ -2,10 +2,12 @@ pub mod World
 pub mod Rules
 pub mod Putting
 pub mod Steps
+pub mod Asking
 pub mod Staying
 pub mod Makes
-pub mod Seen
 pub mod Laws
+pub mod Seen
 pub mod First
 pub mod Told
+pub mod Subjects
 pub mod Ending

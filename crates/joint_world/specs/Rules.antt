@@ -1,5 +1,5 @@
 -- What a node with locks does for calls that read: the rules of `login_model`, and what they do to the locks of the maildrops that the node manages.
-use Rattle.std.specs.Prelude.{◌≡◌, ℕ, Bool, true, false, nat_eq, List, [], bit_and, Option, Some, None, if◌then◌else◌}
+use Rattle.std.specs.Prelude.{◌≡◌, ℕ, Bool, true, false, nat_eq, List, [], Option, Some, None, if◌then◌else◌}
 use Rattle.mail_model.specs.Identity.{Id}
 use Rattle.mail_model.specs.Plan.{Plan, Proof, proves}
 use Rattle.mail_model.specs.Record.{Record}
@@ -8,12 +8,12 @@ use Rattle.object_model.specs.Mishaps.{MishapKind}
 use Rattle.object_model.specs.Letters.{Number, LoginWord, ToldItem, ToldPart, Body, Letter}
 use Rattle.object_model.specs.Letters.LoginWord.{Named, Wrong, InUse}
 use Rattle.object_model.specs.Letters.Body.{LoginAsk, LoginTold, ListAsk, ListTold, FetchAsk, FetchTold, Unlock}
-use Rattle.cluster_model.specs.Cluster.{members_of}
+use Rattle.cluster_model.specs.Steps.{asked_of}
 use Rattle.login_model.specs.Cluster as login
 use Rattle.login_model.specs.Readings.{LoginStage, Login, Reading, ReadTicket}
 use Rattle.login_model.specs.Readings.LoginStage.{AsksManager, IsDenied, AsksNodes, HasFailed}
 use Rattle.login_model.specs.Readings.Reading.{LogsIn as LogsInReading, Fetches as FetchesReading}
-use Rattle.login_model.specs.Locks.{Held, holder_beside, taken, released}
+use Rattle.object_model.specs.Locks.{Held, holder_beside, taken, released}
 use Rattle.login_model.specs.Rules as login_rules
 use Rattle.login_model.specs.Rules.{idle, answering, judge, first_stamp, under, next_number, begin_read, begin_login, begin_fetch, hear_told, read_at, mishap, end_read, give_up_read, leave}
 use Rattle.login_model.specs.Facts.{IsToldList, IsToldPart}
@@ -63,17 +63,13 @@ pub record LogsIn (plan : Plan) (tells : Bool) (own : ℕ) (node : Node) (disk :
       (begin_read own (read_node tells node) (begin_login (under own (read_node tells node) (next_number own (read_node tells node))) user proof manager (judged_here plan tells own node user proof).word mine))
       (if nat_eq manager own then (judged_here plan tells own node user proof).locks else node.locks)
 
--- the holders that are members of the node's epoch
-abbrev pub asked_of : Node → ℕ → ℕ
-asked_of node holders = bit_and holders (members_of node.whole.mail)
-
 -- A fetch begins, with a holder among them.
 pub record Fetches (tells : Bool) (own : ℕ) (node : Node) (disk : List Record) (user : List ℕ) (id : Id) (at most holders : ℕ) (did : Reaction) : Type 0 where
-  pub some : HasHolder (asked_of node holders)
+  pub some : HasHolder (asked_of node.whole.mail holders)
   pub part : ToldPart
-  pub says : has (asked_of node holders) own ≡ true → IsToldPart tells user id at most disk part
+  pub says : has (asked_of node.whole.mail holders) own ≡ true → IsToldPart tells user id at most disk part
   pub is : did ≡ reacted node
-      (begin_read own (read_node tells node) (begin_fetch (under own (read_node tells node) (next_number own (read_node tells node))) user id at most (asked_of node holders) part)) node.locks
+      (begin_read own (read_node tells node) (begin_fetch (under own (read_node tells node) (next_number own (read_node tells node))) user id at most (asked_of node.whole.mail holders) part)) node.locks
 
 -- what a node does with a letter of a call that reads
 abbrev pub Hears : Plan → Bool → ℕ → Node → List Record → Letter → Body → Reaction → Type 0

@@ -2,6 +2,7 @@
 use Rattle.std.specs.Prelude.{◌≡◌, ℕ, Bool, true, List, length, take, drop, Some}
 use Rattle.mail_model.specs.Identity.{Id, State}
 use Rattle.mail_model.specs.Identity.Key.{Message}
+use Rattle.mail_model.specs.Identity.Value.{Here}
 use Rattle.mail_model.specs.Plan.{Plan}
 use Rattle.mail_model.specs.Record.{Record}
 use Rattle.mail_model.specs.Record.Record.{Octets as OctetsRecord, Stated}
@@ -17,10 +18,11 @@ use Rattle.joint_model.specs.Joint.{Slot, slot_at}
 use Rattle.joint_world.specs.World.{World, reads_of}
 use Rattle.joint_world.specs.Laws.{Stands}
 
--- the disk has a record of the user's copy, and the octets of the message, which are so many
+-- the disk has a record that says that the user's copy is here, and the octets of the message, which are so many
 pub record HasCopy (user : List ℕ) (id : Id) (size : ℕ) (disk : List Record) : Type 0 where
   pub state : State
   pub says : Among (Stated (Message user id) state) disk
+  pub here : state.value ≡ Here
   pub octets : List ℕ
   pub holds : Among (OctetsRecord id octets) disk
   pub count : size ≡ length octets

@@ -1,5 +1,5 @@
 -- The parts on deletions and on octets are such parts.
-use Rattle.std.proofs.Common.{◌≡◌, ◌⊎◌, ⊎_elim, ℕ, ◌≤◌, Bool, List, [], ◌∷◌, ◌++◌, append-nil, map, Option, Some, None, refl, sym, ap, subst}
+use Rattle.std.proofs.Common.{◌≡◌, ⊎_elim, ℕ, ◌≤◌, Bool, List, [], ◌∷◌, ◌++◌, append-nil, map, Option, Some, None, true, refl, sym, ap, subst, true≢false}
 use Rattle.std.specs.Prelude.{zero, suc, slice_get}
 use Rattle.mail_model.specs.Identity.{Id, Key, State}
 use Rattle.mail_model.specs.Identity.Key.{Message}
@@ -10,7 +10,7 @@ use Rattle.mail_model.specs.Record.{Record}
 use Rattle.mail_model.specs.Record.Record.{Boot, Promise, Stated}
 use Rattle.object_model.specs.Lists.{Among}
 use Rattle.object_model.specs.Said.{said}
-use Rattle.object_model.specs.Letters.{MapRow, Body, Letter}
+use Rattle.object_model.specs.Letters.{MapRow, Body, Letter, is_read_body}
 use Rattle.object_model.specs.Letters.Body.{Push}
 use Rattle.object_model.proofs.Lists.{among_front, among_either}
 use Rattle.cluster_model.specs.Cluster as mail_cluster
@@ -57,6 +57,15 @@ here_maps : (body : Body) → IsMapsBody body → IsBodyWithOctets body
 here_maps (Push key state octets) of = absurd of
 here_maps body of = tt
 
+-- nor do those of calls that read
+gone_reads : (nodes : ℕ) (body : Body) → is_read_body body ≡ true → IsBodyForAll nodes body
+gone_reads nodes (Push key state octets) of = absurd (true≢false (sym of))
+gone_reads nodes body of = tt
+
+here_reads : (body : Body) → is_read_body body ≡ true → IsBodyWithOctets body
+here_reads (Push key state octets) of = absurd (true≢false (sym of))
+here_reads body of = tt
+
 module _ (plan : Plan) (few : plan.nodes ≤ 64) where
   abbrev Gone : List Record → Type 0
   Gone = AreForAll plan.nodes
@@ -69,6 +78,7 @@ module _ (plan : Plan) (few : plan.nodes ≤ 64) where
     prefix = λ kept lost all key state m. all key state (among_front (Stated key state) kept lost m);
     plain = λ disk added none all key state m. ⊎_elim (λ old. all key state old) (λ new. absurd (none key state new)) (among_either (Stated key state) disk added m);
     maps = λ body of. gone_maps plan.nodes body of;
+    reads = λ body of. gone_reads plan.nodes body of;
   }
 
   gone_by : (own : ℕ) (node : Node) (disk : List Record) (did : Reaction) (heard : Option Letter) (files : Option Content) (strikes : List (List ℕ × Id)) → KeepsGone plan.nodes (act_of own node disk did heard files strikes)
@@ -84,8 +94,8 @@ module _ (plan : Plan) (few : plan.nodes ≤ 64) where
   gone_begins w own node disk (Strike user items) octets = gone_by own node disk (begin_strike own plan.nodes node disk user (asked_for plan own node items)) None None []
       (gone.strikes_keep plan.nodes own node disk user (asked_for plan own node items) [] few) (λ letter e. absurd (cc e))
   gone_begins w own node disk (Login user proof) octets = λ p. (p, λ one m. absurd m)
-  gone_begins w own node disk (Fetch user id from most) octets = λ p. (p, λ one m. absurd m)
-  gone_begins w own node disk (Leave user) octets = λ p. (p, λ one m. absurd m)
+  gone_begins w own node disk (Fetch user id from most holders) octets = λ p. (p, λ one m. absurd m)
+  gone_begins w own node disk (Leave user login manager) octets = λ p. (p, λ one m. absurd m)
 
   some_letter : (a b : Letter) → Some a ≡ Some b → a ≡ b
   some_letter a b e = cc
@@ -104,6 +114,7 @@ module _ (plan : Plan) (few : plan.nodes ≤ 64) where
     prefix = λ kept lost all. prefix_has kept lost (kept ++ lost) refl all;
     plain = λ disk added none all. plain_more disk added none all;
     maps = here_maps;
+    reads = here_reads;
   }
 
   here_by : (own : ℕ) (node : Node) (disk : List Record) (did : Reaction) (heard : Option Letter) (files : Option Content) (strikes : List (List ℕ × Id)) → KeepsOctets (act_of own node disk did heard files strikes)
@@ -119,8 +130,8 @@ module _ (plan : Plan) (few : plan.nodes ≤ 64) where
   here_begins w own node disk (Strike user items) octets = here_by own node disk (begin_strike own plan.nodes node disk user (asked_for plan own node items)) None None []
       (here_proofs.strikes_keep own plan.nodes node disk user (asked_for plan own node items) []) (λ letter e. absurd (cc e))
   here_begins w own node disk (Login user proof) octets = λ p. (p, λ one m. absurd m)
-  here_begins w own node disk (Fetch user id from most) octets = λ p. (p, λ one m. absurd m)
-  here_begins w own node disk (Leave user) octets = λ p. (p, λ one m. absurd m)
+  here_begins w own node disk (Fetch user id from most holders) octets = λ p. (p, λ one m. absurd m)
+  here_begins w own node disk (Leave user login manager) octets = λ p. (p, λ one m. absurd m)
 
   here_rules : Rules EachHereHasOctets IsBodyWithOctets here_stays plan
   here_rules = record {

@@ -1,10 +1,10 @@
 -- A part over disks and letters in a world of messages: what a node's work, its fall and a lost letter leave of it.
-use Rattle.std.proofs.Common.{◌≡◌, ◌⊎◌, inl, inr, ⊎_elim, ℕ, ◌+◌, Bool, true, false, List, [], ◌∷◌, ◌++◌, append-nil, append_assoc, Some, refl, sym, ap, ◌∙◌, subst, if◌then◌else◌}
+use Rattle.std.proofs.Common.{◌≡◌, inl, inr, ⊎_elim, ℕ, ◌+◌, Bool, true, false, List, [], ◌∷◌, ◌++◌, append-nil, append_assoc, Some, refl, sym, ap, ◌∙◌, subst, if◌then◌else◌}
 use Rattle.mail_model.specs.Identity.{Key, State}
 use Rattle.mail_model.specs.Record.{Record}
 use Rattle.mail_model.specs.Record.Record.{Stated}
 use Rattle.object_model.specs.Lists.{Among}
-use Rattle.object_model.specs.Letters.{Body, Letter}
+use Rattle.object_model.specs.Letters.{Body, Letter, is_read_body}
 use Rattle.object_model.specs.Mishaps.{MishapKind}
 use Rattle.object_model.specs.Mishaps.MishapKind.{Crowded}
 use Rattle.object_model.proofs.Lists.{among_last}
@@ -28,11 +28,12 @@ pub four : (xs ys zs ws : List Record) → xs ++ ((ys ++ zs) ++ ws) ≡ ((xs ++ 
 four xs ys zs ws = sym (append_assoc xs (ys ++ zs) ws) ∙ ap (λ (l : List Record). l ++ ws) (sym (append_assoc xs ys zs))
 
 module _ (P : List Record → Type 0) (B : Body → Type 0) where
-  -- it holds of each prefix, and records without states and letters of membership and maps leave it alone
+  -- it holds of each prefix, and records without states and letters of membership and maps, and of calls that read, leave it alone
   pub record Stays : Type 0 where
     pub prefix : (kept lost : List Record) → P (kept ++ lost) → P kept
     pub plain : (disk added : List Record) → ((key : Key) (state : State) → Among (Stated key state) added → ⊥) → P disk → P (disk ++ added)
     pub maps : (body : Body) → IsMapsBody body → B body
+    pub reads : (body : Body) → is_read_body body ≡ true → B body
 
   pub record Holds (w : World) : Type 0 where
     pub disks : (n : ℕ) (slot : Slot) → slot_at w.slots n ≡ Some slot → P (all_records slot)

@@ -1,5 +1,5 @@
 -- A part over disks and letters: each step for messages keeps it.
-use Rattle.std.proofs.Common.{◌≡◌, ◌⊎◌, ⊎_elim, ℕ, ◌+◌, arith, Bool, false, List, [], ◌∷◌, ◌++◌, append-nil, Option, Some, None, refl, sym, ap, ◌∙◌, subst}
+use Rattle.std.proofs.Common.{◌≡◌, ◌⊎◌, inl, inr, ⊎_elim, ℕ, ◌+◌, arith, Bool, false, List, [], ◌∷◌, ◌++◌, append-nil, Option, Some, None, refl, sym, ap, ◌∙◌, subst}
 use Rattle.mail_model.specs.Identity.{EpochId, Key, State}
 use Rattle.mail_model.specs.Identity.Key.{Message}
 use Rattle.mail_model.specs.Plan.{Plan}
@@ -14,7 +14,7 @@ use Rattle.cluster_model.specs.Cluster.Life.{Down, Lost}
 use Rattle.cluster_model.specs.Claims.{boot_of}
 use Rattle.cluster_model.specs.Moves.{IsReady}
 use Rattle.cluster_model.specs.Parts.{Sound}
-use Rattle.cluster_model.specs.Rules.{Reaction, push, widen, refuse, begin_read, end_ticket}
+use Rattle.cluster_model.specs.Rules.{Reaction, push, widen, refuse, end_ticket}
 use Rattle.cluster_model.specs.Thrown.{with_stamps}
 use Rattle.cluster_model.specs.Forms.{promise_records, FormsEpoch}
 use Rattle.cluster_model.specs.Deeds.{slot_up, hear}
@@ -26,7 +26,7 @@ use Rattle.cluster_model.specs.Steps.NodeCall.{Deliver, Login, Fetch, Strike, Le
 use Rattle.cluster_model.specs.Steps.Step.{Begin, AskFor, GiveUp, Post, DropLetter, PushTo, Widen, Form, Crash, Start, Lose, Tick}
 use Rattle.cluster_model.specs.Steps.StepOutcome.{Says, Refused, NoMemory}
 use Rattle.cluster_model.specs.Makes.{IsUp, with_struck, begun_by, cut_world, BeginsCall, AnswersAsk, Posts, FormsAt, DoesStep, RunsShort, MakesStep}
-use Rattle.cluster_model.specs.Makes.BeginsCall.{FailsAtOnce, Goes, FailsInIt, Reads, FailsReading, Leaves}
+use Rattle.cluster_model.specs.Makes.BeginsCall.{FailsAtOnce, Goes, FailsInIt}
 use Rattle.cluster_model.specs.Makes.AnswersAsk.{Waits, Ends}
 use Rattle.cluster_model.specs.Makes.Posts.{NobodyUp, OfOtherEpoch, TooLate, IsHeard, FailsHearing, IsForMaps, FailsForMaps}
 use Rattle.cluster_model.specs.Makes.Pushes.{Sends, FailsPushing}
@@ -34,6 +34,10 @@ use Rattle.cluster_model.specs.Makes.Widens.{Adds, FailsWidening}
 use Rattle.cluster_model.specs.Makes.FormsAt.{Does, HasNone, FailsForming}
 use Rattle.cluster_model.specs.Makes.StartsUp.{Comes, FailsStarting}
 use Rattle.cluster_model.specs.Makes.RunsShort.{Beginning, Hearing, Widening, Forming, Starting}
+use Rattle.cluster_model.proofs.Reading.{SeesOne, SeesFall, begins_seen, answers_seen, gives_up_seen, posts_seen, drops_seen}
+use Rattle.cluster_model.proofs.Reading.SeesOne.{Turns, Refuses, Sends as SendsOne, Takes}
+use Rattle.cluster_model.proofs.Missing.{letters_last}
+use Rattle.object_model.proofs.Lists.{among_last}
 use Rattle.cluster_model.proofs.Stepping.{flew}
 use Rattle.whole_world.proofs.Plain.{soft_missed}
 use Rattle.whole_world.proofs.Stepwise.{flew_on}
@@ -43,8 +47,8 @@ struck_slots : (w : World) (call : NodeCall) → ((with_struck w call).slots ≡
 struck_slots w (Deliver mail) = (refl, refl)
 struck_slots w (Strike user items) = (refl, refl)
 struck_slots w (Login user proof) = (refl, refl)
-struck_slots w (Fetch user id from most) = (refl, refl)
-struck_slots w (Leave user) = (refl, refl)
+struck_slots w (Fetch user id from most holders) = (refl, refl)
+struck_slots w (Leave user login manager) = (refl, refl)
 
 -- what is appended for membership says nothing of states
 no_promised : (promise : Option EpochId) (key : Key) (state : State) → Among (Stated key state) (promise_records promise) → ⊥
@@ -86,6 +90,34 @@ module _ (P : List Record → Type 0) (B : Body → Type 0) (s : Stays P B) wher
       found : P records
       found = subst P (sym stops.records) (image disk pending stops.kept stops.pending_is p)
 
+  -- what messages see of calls that read
+  abbrev StayHeld : World → World → Type 0
+  StayHeld a b = Holds P B a → Holds P B b
+
+  stay_held : (w : World) → StayHeld w w
+  stay_held w h = h
+
+  held_then : (a b c : World) → StayHeld a b → StayHeld b c → StayHeld a c
+  held_then a b c first others h = others (first h)
+
+  sees_hold : (a b : World) → SeesOne a b → StayHeld a b
+  sees_hold a b (Turns own node disk calls count up e) h = subst (Holds P B) (sym e)
+      (write_hold P B a _ own (slot_up node disk) (slot_up (record node { calls = calls; count = count }) disk) up (h.disks own (slot_up node disk) up) refl (λ letter m. m) h)
+  sees_hold a b (Refuses own node disk kind mishaps up e) h = subst (Holds P B) (sym e)
+      (after_hold P B a h own node disk up (refuse kind mishaps 0 node disk) (λ p. (p, λ one m. absurd m)))
+  sees_hold a b (SendsOne letter l e) h = subst (Holds P B) (sym e) (record {
+    disks = h.disks;
+    letters = λ one m. ⊎_elim
+        (λ before. h.letters one before)
+        (λ is. subst (λ (x : Letter). B x.body) is (s.reads letter.body l.body))
+        (among_last one (letters_of a.flying) letter (subst (Among one) (letters_last a.flying (record { number = a.sent + 1; letter = letter })) m));
+  })
+  sees_hold a b (Takes number flies keep of e) h = subst (Holds P B) (sym e) (same_hold P B a _ refl (λ letter m. flew_on a number flies keep letter m) h)
+
+  fall_hold : (own : ℕ) (a b : World) → SeesFall own a b → StayHeld a b
+  fall_hold own a b f h = cut_hold P B s a h own f.node f.disk f.up f.disk (λ p. p) b
+      (record { front = []; pending = []; one = omega arith; cut = record { missing = []; is = sym (append-nil f.disk) }; is = f.is })
+
   module _ (plan : Plan) (r : Rules plan) (old : World) (sound : Sound plan.confirm (cluster_of old)) (h : Holds P B old) where
     struck : (call : NodeCall) → Holds P B (with_struck old call)
     struck call = same_hold P B old (with_struck old call) (struck_slots old call).0 (λ letter m. subst (λ (f : List Flight). Among letter (letters_of f)) (struck_slots old call).1 m) h
@@ -111,9 +143,6 @@ module _ (P : List Record → Type 0) (B : Body → Type 0) (s : Stays P B) wher
         (after_hold P B (with_struck old call) (struck call) own node disk (struck_up call own node disk up) (begun_by plan old own node disk call octets) (r.begins old own node disk call octets))
     begins_hold tells own call said new (FailsInIt node disk octets up filed is g) =
         cut_hold P B s (with_struck old call) (struck call) own node disk (struck_up call own node disk up) (begun_by plan old own node disk call octets).disk (λ p. (r.begins old own node disk call octets p).0) new g
-    begins_hold tells own call said new (Reads node disk kind what up one goes of finds is new_world) = to_new _ new new_world (after_hold P B old h own node disk up (begin_read kind what node disk) (quiet (begin_read kind what node disk).node disk))
-    begins_hold tells own call said new (FailsReading node disk user id from most up one goes reads is new_world) = stops new own node disk up new_world
-    begins_hold tells own call said new (Leaves node disk user up one leaves is new_world) = to_new old new new_world h
 
     asks_hold : (number : _) (said : Said) (new : World) → AnswersAsk plan old number said new → Holds P B new
     asks_hold number said new (Waits node disk ticket up found got wanted e is new_world) = to_new old new new_world h
@@ -153,11 +182,16 @@ module _ (P : List Record → Type 0) (B : Body → Type 0) (s : Stays P B) wher
     ready own node disk up = record { order = sound.order.each own (slot_up node disk) up; fits = sound.fit.slots_fit own (slot_up node disk) up; heard_fits = λ letter e. absurd (cc e) }
 
     steps_hold : (tells : Bool) (step : Step) (said : Said) (new : World) → DoesStep plan tells old step said new → Holds P B new
-    steps_hold tells (Begin own call) said new d = begins_hold tells own call said new d
-    steps_hold tells (AskFor number) said new d = asks_hold number said new d
-    steps_hold tells (GiveUp number) said new d = to_new _ new d.new_world (after_hold P B old h number.node d.node d.disk d.up (end_ticket number.seq d.node d.disk) (quiet (end_ticket number.seq d.node d.disk).node d.disk))
-    steps_hold tells (Post number keep) said new d = posts_hold number keep said new d
-    steps_hold tells (DropLetter number) said new d = to_new _ new d.new_world (lost_hold P B old h Dropped number d.flies false)
+    steps_hold tells (Begin own call) said new (inl d) = begins_hold tells own call said new d
+    steps_hold tells (Begin own call) said new (inr d) = begins_seen StayHeld stay_held held_then sees_hold plan own call said old new (λ n e a b f. fall_hold n a b f) d h
+    steps_hold tells (AskFor number) said new (inl d) = asks_hold number said new d
+    steps_hold tells (AskFor number) said new (inr d) = answers_seen StayHeld stay_held held_then sees_hold number said old new d h
+    steps_hold tells (GiveUp number) said new (inr d) = gives_up_seen StayHeld stay_held held_then sees_hold number said old new d h
+    steps_hold tells (GiveUp number) said new (inl d) = to_new _ new d.new_world (after_hold P B old h number.node d.node d.disk d.up (end_ticket number.seq d.node d.disk) (quiet (end_ticket number.seq d.node d.disk).node d.disk))
+    steps_hold tells (Post number keep) said new (inl d) = posts_hold number keep said new d.0
+    steps_hold tells (Post number keep) said new (inr d) = posts_seen StayHeld stay_held held_then sees_hold number keep said old new (λ n e a b f. fall_hold n a b f) d h
+    steps_hold tells (DropLetter number) said new (inl d) = to_new _ new d.0.new_world (lost_hold P B old h Dropped number d.0.flies false)
+    steps_hold tells (DropLetter number) said new (inr d) = drops_seen StayHeld stay_held held_then sees_hold number said old new d h
     steps_hold tells (PushTo from to) said new (Sends node disk up is new_world) = to_new _ new new_world
         (after_hold P B old h from node disk up (push from to (keys_pushed old.flying from to node disk) node disk) (r.pushes from to (keys_pushed old.flying from to node disk) node disk (ready from node disk up)))
     steps_hold tells (PushTo from to) said new (FailsPushing node disk up is new_world) = stops new from node disk up new_world

@@ -23,8 +23,8 @@
 //!
 //! WHAT IT DOES NOT DO
 //!
-//! It has no code, and no line of the program uses it. It says nothing of steps of calls that read
-//! over several nodes, which are no steps of these worlds yet; they write nothing.
+//! It has no code, and no line of the program uses it. It says nothing of what calls that read keep at
+//! nodes: of their steps it knows what messages see, and they write nothing.
 #![tactic(auto)]
 
 mod laws;

@@ -15,8 +15,6 @@
 //! - `Readings`: how far a login and a fetch have come, and their tickets.
 //! - `Cluster`: what calls that read see of a cluster, with its story: the slots of all moments so far.
 //! - `Rules`: what one node does, as functions of plain values.
-//! - `Locks`: which login holds each user's maildrop. The machine does not see them: a manager may tell
-//!   that a maildrop is in use, and a node whose locks are said beside it tells just that.
 //! - `Progress`: what an ask of a ticket answers, and how many letters mishaps may still send for a call.
 //! - `Facts`, `Moves`, `Parts`: what may be told of a node, what a node may do, and the invariant.
 //! - `Beside`: a step in which these calls do nothing.

@@ -1,7 +1,7 @@
 -- A call that a node begins, for every plan whose node it is.
 use Rattle.std.proofs.Common.{◌≡◌, ◌⊎◌, ◌<◌, ℕ, zero, suc, ◌+◌, max, List, [], ◌++◌, length, Bool, true, false, not, ◌&&◌, ◌||◌, nat_lt, nat_le, Option, Some, None, if◌then◌else◌, refl, sym, ap, subst, ◌∙◌, ⊎_elim, append-nil, lt-ltb, arith, true≢false}
 use Rattle.std.proofs.Math.Nat.{le-max_left}
-use Rattle.std.specs.Prelude.{Result, Ok, Err, is_some}
+use Rattle.std.specs.Prelude.{Result, Ok, Err}
 use Rattle.io_edge.specs.Moments.{Keeps as KeepsImages}
 use Rattle.io_edge.proofs.Passing.{keeps_none}
 use Rattle.mail_model.specs.Lines.{ends_in_crlf}
@@ -12,13 +12,12 @@ use Rattle.mail_model.specs.Told.{Mail}
 use Rattle.mail_model.specs.Mail.{IsStored, trace_lines}
 use Rattle.mail_model.proofs.ShownFiled.{ends_front, trace_ends}
 use Rattle.object_model.specs.Sets.{nodes_in}
-use Rattle.object_model.specs.Letters.{Number, Membership}
-use Rattle.object_model.specs.Mishaps.{Mishaps, mishaps_of, no_mishaps, counted}
-use Rattle.object_model.specs.Mishaps.MishapKind.{FewMembers}
+use Rattle.object_model.specs.Letters.{Number}
+use Rattle.object_model.specs.Mishaps.{Mishaps, mishaps_of}
 use Rattle.cluster_model.specs.Cluster.{CallKind, members_of}
 use Rattle.cluster_model.specs.Rules.{begin_deliver, refuse, new_number}
 use Rattle.cluster_model.specs.Targets.{deliver_targets}
-use Rattle.cluster_model.specs.Steps.{NodeCall, greatest, end_of_dates, mishaps_of_call, epoch_mishaps, fails_at_once, ids_drawn, stamps_drawn, tickets_drawn, is_worn_for}
+use Rattle.cluster_model.specs.Steps.{NodeCall, greatest, end_of_dates, mishaps_of_call, fails_at_once, ids_drawn, stamps_drawn, tickets_drawn, is_worn_for}
 use Rattle.cluster_model.specs.Steps.NodeCall.{Deliver}
 use Rattle.cluster_model.specs.Makes.{IsFiled, begun_by, kind_of_call}
 use Rattle.node_store.specs.Disks.{View}
@@ -29,7 +28,7 @@ use Rattle.node_core.specs.Spelling.{AllCanBeTaken}
 use Rattle.node_core.specs.Works.{Rule, NodeDid, IsOnlyRead}
 use Rattle.node_core.specs.Failing.{few_seen, late_seen, lacks_numbers, lacks_ids, CallRefused, RefusesCall}
 use Rattle.node_core.specs.Delivering.{delivering, DeliveryBegun, DeliveryStopped, BeginsDelivery}
-use Rattle.node_core.specs.Beginning.{at_second, CallDid, CallBegun, CallStopped, CallFailed, NodeBegins}
+use Rattle.node_core.specs.Beginning.{at_second, CallDid, CallBegun, CallStopped, NodeBegins}
 use Rattle.node_core.specs.declared.fault.NodeFault.{NodeFault}
 use Rattle.node_core.specs.declared.fault.NodeFault.TheVariants.{Disk, Worn, NoMemory}
 use Rattle.node_core.specs.declared.outbox.Outbox.{Outbox}
@@ -44,14 +43,6 @@ delivery_mishaps plan own seconds old members m p are is mail =
     is ∙ ap (λ (l : List ℕ). late_seen (nat_le end_of_dates seconds) (nat_lt (length l) (max 1 old.shape.confirm))) are
     ∙ ap (λ (n : ℕ). late_seen (nat_le end_of_dates seconds) (nat_lt (length (nodes_in (members_of (node_seen old)) n)) (max 1 old.shape.confirm))) p.nodes
     ∙ ap (λ (f : ℕ). late_seen (nat_le end_of_dates seconds) (nat_lt (length (nodes_in (members_of (node_seen old)) plan.nodes)) (max 1 f))) p.confirm
-
--- and those of a call that reads
-pub reading_mishaps : (old : Node) → few_seen (not (is_some (node_seen old).installed)) ≡ epoch_mishaps (node_seen old)
-reading_mishaps old = by (node_seen old).installed
-  where
-    by : (installed : Option Membership) → few_seen (not (is_some installed)) ≡ (if is_some installed then no_mishaps else counted FewMembers no_mishaps)
-    by None = refl
-    by (Some membership) = refl
 
 -- a delivery that nothing befalls comes before the end of dates
 none_is_late : (late few : Bool) → nat_lt 0 (mishaps_of (late_seen late few)) ≡ false → late ≡ false
@@ -180,7 +171,7 @@ module _ {D : Type 0} (on : View D) (plan : Plan) (own seconds : ℕ) (old : Nod
 
     pub delivers : (result : Result (Option Number × Outbox) NodeFault) → BeginsDelivery on mail seconds old before new after result → NodeBegins on plan own seconds (Deliver mail) old before new after result
     delivers (Ok begun) d = went begun.0 begun.1 d
-    delivers (Err Disk) d = CallFailed.Working (stopped_in keep.Disk d)
+    delivers (Err Disk) d = stopped_in keep.Disk d
     delivers (Err Worn) d = absurd d
     delivers (Err (NoMemory true)) d = stopped_in keep.NoMemory d
     delivers (Err (NoMemory false)) d = let u = untouched on before after d.1 in (d.0, u.0, u.1)

@@ -2,6 +2,7 @@ pub mod Acking
 pub mod Begun
 pub mod Delivery
 pub mod Doing
+pub mod Drawn
 pub mod Everyone
 pub mod FirstBoot
 pub mod Fitting

@@ -1,10 +1,9 @@
--- What a Login finds is the listing of its mailbox.
+-- What a node tells of a user is the listing of the mailbox.
 use Rattle.std.proofs.Common.{◌≡◌, ◌≢◌, inl, inr, ℕ, zero, suc, ◌+◌, ◌<◌, ◌≤◌, Bool, true, false, cond, List, [], ◌∷◌, length, map, get_or, All, AllPairs, Option, Some, None, refl, sym, ap, subst, ◌∙◌, true≢false, arith}
 use Rattle.std.specs.Ordering.{nat_cmp, is_lt, ordering_reverse, ordering_then}
 use Rattle.std.specs.declared.cmp.Ordering.{Ordering}
 use Rattle.std.specs.declared.cmp.Ordering.TheVariants.{Less, Equal, Greater}
 use Rattle.std.specs.Cmp.{IsTotalOrder, IsStrictWeakOrder, tied_itself}
-use Rattle.std.specs.FinMap as fin
 use Rattle.std.specs.List.{AllByRecursion, Contains, sum_by}
 use Rattle.std.specs.List.Sorted.{IsPermutation, IsStrictlySortedBy}
 use Rattle.std.proofs.lemmas.Cmp.{then_total, on_total, nat_cmp_total}
@@ -17,7 +16,6 @@ use Rattle.mail_model.specs.Identity.Value.{Here, Gone, Secret}
 use Rattle.mail_model.specs.Identity.Key.{Message}
 use Rattle.mail_model.specs.Grammar.{IsId, IsRecord}
 use Rattle.mail_model.specs.Listing.{is_same_id, is_here, octets_in}
-use Rattle.mail_model.specs.Plan.{Plan, Proof, Users, is_right_by, proves}
 use Rattle.mail_model.specs.Record.{Record}
 use Rattle.mail_model.specs.Record.Record.{Octets}
 use Rattle.object_model.specs.Keys.{id_cmp}
@@ -25,17 +23,13 @@ use Rattle.object_model.specs.Lists.{Among}
 use Rattle.object_model.specs.Said.{said}
 use Rattle.object_model.proofs.MapLaws.{id_total, id_exact}
 use Rattle.object_model.proofs.StateLaws.{id_is, id_self}
-use Rattle.mail_base.specs.declared.item.Item.{Item}
-use Rattle.call_tickets.specs.declared.answer.Answer.{Answer}
+use Rattle.object_model.specs.Letters.{ToldItem}
 use Rattle.cluster_model.specs.Reads.{ListedCopy, copy_cmp, IsListedBefore, IsListedCopy, IsListing, is_here_held}
-use Rattle.cluster_model.specs.Reads.Found.{Listed, WrongSecret}
 use Rattle.cluster_model.proofs.Filing.{octets_stand}
 use Rattle.cluster_model.proofs.Listings.{each_of}
 use Rattle.node_store.specs.Mailboxes.{AreIdsHere}
-use Rattle.node_tickets.specs.Seen.{copy_seen, found_in}
-use Rattle.node_core.specs.Nodes.{NodeKeeps}
-use Rattle.node_core.specs.Listing.{copy_if, copy_of, with_copy, copies_for, comes_first, AreInOrder, MailboxFound}
-use Rattle.node_core.specs.declared.node.Node.{Node}
+use Rattle.login_model.specs.Facts.{copy_told, IsToldList}
+use Rattle.node_core.specs.Listing.{copy_if, copy_of, with_copy, copies_for, comes_first, AreInOrder}
 
 -- a copy that stands in a listing, and one that does not
 here_state : (state : State) → is_here state.value ≡ true → state ≡ record { value = Here; stamp = state.stamp; targets = state.targets }
@@ -140,7 +134,7 @@ copy_total = then_total (on_total (λ (c : ListedCopy). c.stamp.count) nat_cmp_t
     (then_total (on_total (λ (c : ListedCopy). c.stamp.node) nat_cmp_total) (on_total (λ (c : ListedCopy). c.id) id_total)))
 
 pub in_order_by : IsStrictWeakOrder comes_first
-in_order_by = ranks_by copy_total copy_seen
+in_order_by = ranks_by copy_total copy_told
 
 -- copies that tie have one id
 then_equal : (a b : Ordering) → ordering_then a b ≡ Equal → b ≡ Equal
@@ -171,33 +165,33 @@ part_of_sum f (x ∷ xs) zero d lt = omega (arith, sum_by-cons f x xs)
 part_of_sum f (x ∷ xs) (suc k) d lt = omega (arith, sum_by-cons f x xs, part_of_sum f xs k d (omega (arith, lt)))
 
 -- how often an id stands in a list of messages
-abbrev times_in : Id → List Item → ℕ
-times_in id items = sum_by (λ (item : Item). cond (is_same_id item.id id) 1 0) items
+abbrev times_in : Id → List ToldItem → ℕ
+times_in id items = sum_by (λ (item : ToldItem). cond (is_same_id item.id id) 1 0) items
 
-times_seen : (user : List ℕ) (records : List Record) (id : Id) (items : List Item) → times user records id (map copy_seen items) ≡ times_in id items
+times_seen : (user : List ℕ) (records : List Record) (id : Id) (items : List ToldItem) → times user records id (map copy_told items) ≡ times_in id items
 times_seen user records id [] = refl
 times_seen user records id (item ∷ items) =
-    sum_by-cons (λ (c : ListedCopy). cond (is_same_id c.id id) 1 0) (copy_seen item) (map copy_seen items)
+    sum_by-cons (λ (c : ListedCopy). cond (is_same_id c.id id) 1 0) (copy_told item) (map copy_told items)
     ∙ ap (λ (n : ℕ). cond (is_same_id item.id id) 1 0 + n) (times_seen user records id items)
-    ∙ sym (sum_by-cons (λ (i : Item). cond (is_same_id i.id id) 1 0) item items)
+    ∙ sym (sum_by-cons (λ (i : ToldItem). cond (is_same_id i.id id) 1 0) item items)
 
 -- messages in order, of which each id stands once, rise
-rising : (items : List Item) → AreInOrder items → ((id : Id) → times_in id items ≤ 1) → AllPairs IsListedBefore (map copy_seen items)
+rising : (items : List ToldItem) → AreInOrder items → ((id : Id) → times_in id items ≤ 1) → AllPairs IsListedBefore (map copy_told items)
 rising [] ordered few = λ i j d lt within. absurd (omega (arith, within))
 rising (item ∷ items) ordered few =
-    AllPairs-cons IsListedBefore (copy_seen item) (map copy_seen items)
-    (All-map (IsListedBefore (copy_seen item)) copy_seen items (λ k d lt.
-    comes_before (copy_seen item) (copy_seen (get_or items k d))
+    AllPairs-cons IsListedBefore (copy_told item) (map copy_told items)
+    (All-map (IsListedBefore (copy_told item)) copy_told items (λ k d lt.
+    comes_before (copy_told item) (copy_told (get_or items k d))
     (sorted_far comes_first in_order_by (item ∷ items) ordered zero (suc k) d (omega arith) (omega (arith, lt)))
     (λ same. apart k d lt same)))
-    (rising items (λ k d low high. subst (λ (m : ℕ). comes_first (get_or (item ∷ items) m d) (get_or items k d) ≡ false) (next k) (ordered (suc k) d (omega arith) (omega (arith, high)))) (λ id. omega (arith, few id, sum_by-cons (λ (i : Item). cond (is_same_id i.id id) 1 0) item items)))
+    (rising items (λ k d low high. subst (λ (m : ℕ). comes_first (get_or (item ∷ items) m d) (get_or items k d) ≡ false) (next k) (ordered (suc k) d (omega arith) (omega (arith, high)))) (λ id. omega (arith, few id, sum_by-cons (λ (i : ToldItem). cond (is_same_id i.id id) 1 0) item items)))
   where
     next : (k : ℕ) → suc k + 1 ≡ suc (k + 1)
     next k = omega arith
 
-    apart : (k : ℕ) (d : Item) → k < length items → item.id ≡ (get_or items k d).id → ⊥
+    apart : (k : ℕ) (d : ToldItem) → k < length items → item.id ≡ (get_or items k d).id → ⊥
     apart k d lt same =
-        let f : Item → ℕ = λ i. cond (is_same_id i.id item.id) 1 0 in
+        let f : ToldItem → ℕ = λ i. cond (is_same_id i.id item.id) 1 0 in
         let first : f item ≡ 1 = ap (λ (b : Bool). cond b 1 0) (id_self item.id) in
         let again : f (get_or items k d) ≡ 1 = ap (λ (i : Id). cond (is_same_id i item.id) 1 0) (sym same) ∙ first in
         omega (arith, few item.id, sum_by-cons f item items, first, again, part_of_sum f items k d lt)
@@ -217,39 +211,18 @@ among_permuted : {X : Type 0} (x : X) (xs ys : List X) → IsPermutation xs ys �
 among_permuted x xs ys p m = among x ys (Contains-permutation xs ys x p (contains x xs m))
 
 -- the copies of the ids that are here, put in order, are the listing
-pub is_listing : (user : List ℕ) (records : List Record) (ids : List Id) (items sorted : List Item) → All IsRecord records → AreIdsHere user records ids → map copy_seen items ≡ copies_for user records ids
-    → IsPermutation items sorted → AreInOrder sorted → IsListing user records (map copy_seen sorted)
+pub is_listing : (user : List ℕ) (records : List Record) (ids : List Id) (items sorted : List ToldItem) → All IsRecord records → AreIdsHere user records ids → map copy_told items ≡ copies_for user records ids
+    → IsPermutation items sorted → AreInOrder sorted → IsToldList user records sorted
 is_listing user records ids items sorted fit here copies permuted ordered = record {
   exact = λ copy. (
-    λ m. copies_listed user records ids copy (subst (Among copy) copies (among_permuted copy (map copy_seen sorted) (map copy_seen items) (IsPermutation-sym (map copy_seen items) (map copy_seen sorted) moved) m)),
-    λ is. among_permuted copy (map copy_seen items) (map copy_seen sorted) moved (subst (Among copy) (sym copies) (listed_copies user records ids copy is (here.all copy.id (named copy is) (ap is_here_held is.says)))),
+    λ m. copies_listed user records ids copy (subst (Among copy) copies (among_permuted copy (map copy_told sorted) (map copy_told items) (IsPermutation-sym (map copy_told items) (map copy_told sorted) moved) m)),
+    λ is. among_permuted copy (map copy_told items) (map copy_told sorted) moved (subst (Among copy) (sym copies) (listed_copies user records ids copy is (here.all copy.id (named copy is) (ap is_here_held is.says)))),
   );
-  rising = rising sorted ordered (λ id. omega (arith, sum_by-IsPermutation (λ (i : Item). cond (is_same_id i.id id) 1 0) items sorted permuted, times_seen user records id items, ap (times user records id) copies, once user records ids here.in_order id));
+  rising = rising sorted ordered (λ id. omega (arith, sum_by-IsPermutation (λ (i : ToldItem). cond (is_same_id i.id id) 1 0) items sorted permuted, times_seen user records id items, ap (times user records id) copies, once user records ids here.in_order id));
 }
   where
-    moved : IsPermutation (map copy_seen items) (map copy_seen sorted)
-    moved = IsPermutation-map copy_seen items sorted permuted
+    moved : IsPermutation (map copy_told items) (map copy_told sorted)
+    moved = IsPermutation-map copy_told items sorted permuted
 
     named : (copy : ListedCopy) → IsListedCopy user records copy → IsId copy.id
     named copy is = each_of IsRecord (Octets copy.id is.octets) records fit (octets_stand copy.id is.octets records is.held)
-
-module _ (users : Users) (user : List ℕ) (proof : Proof) (node : Node) where
-  let_in : (plan : Plan) → users ≡ plan.users → proves plan user proof ≡ is_right_by (fin.get users user) proof
-  let_in plan same = ap (λ (u : Users). is_right_by (fin.get u user) proof) (sym same)
-
-  -- a proof that is not right by the user's secret
-  pub wrong_found : (answer : Answer) → found_in answer ≡ Some WrongSecret → is_right_by (fin.get users user) proof ≡ false → MailboxFound users user proof node answer
-  wrong_found answer is wrong = record {
-    found = WrongSecret;
-    is = is;
-    those = λ plan same tells records k. inl (let_in plan same ∙ wrong, refl);
-  }
-
-  -- and one that is
-  pub listing_found : (answer : Answer) (items : List ListedCopy) → found_in answer ≡ Some (Listed items) → is_right_by (fin.get users user) proof ≡ true
-      → ((records : List Record) → NodeKeeps records node → IsListing user records items) → MailboxFound users user proof node answer
-  listing_found answer items is right listing = record {
-    found = Listed items;
-    is = is;
-    those = λ plan same tells records k. inr (let_in plan same ∙ right, (items, listing records k, refl));
-  }

@@ -18,7 +18,7 @@ use Rattle.node_core.specs.Nodes.{node_seen, IsNodeOf}
 use Rattle.node_core.specs.Works.{Rule}
 use Rattle.node_core.specs.Failing.{few_seen, lacks_numbers}
 use Rattle.node_core.specs.Striking.{asks_among, striking, StrikeBegun, StrikeStopped, BeginsStrike}
-use Rattle.node_core.specs.Beginning.{at_second, CallDid, CallBegun, CallStopped, CallFailed, NodeBegins}
+use Rattle.node_core.specs.Beginning.{at_second, CallDid, CallBegun, CallStopped, NodeBegins}
 use Rattle.node_core.specs.declared.fault.NodeFault.{NodeFault}
 use Rattle.node_core.specs.declared.fault.NodeFault.TheVariants.{Disk, Worn, NoMemory}
 use Rattle.node_core.specs.declared.outbox.Outbox.{Outbox}
@@ -68,7 +68,7 @@ module _ {D : Type 0} (on : View D) (plan : Plan) (own seconds : ℕ) (old : Nod
 
   pub strikes : (result : Result (Option Number × Outbox) NodeFault) → BeginsStrike on user items old before new after result → NodeBegins on plan own seconds (Strike user items) old before new after result
   strikes (Ok begun) d = went begun.0 begun.1 d
-  strikes (Err Disk) d = CallFailed.Working (stopped_in keep.Disk d)
+  strikes (Err Disk) d = stopped_in keep.Disk d
   strikes (Err Worn) d = absurd d
   strikes (Err (NoMemory true)) d = stopped_in keep.NoMemory d
   strikes (Err (NoMemory false)) d = let u = untouched on before after d.1 in (d.0, u.0, u.1)

@@ -1,6 +1,7 @@
 pub mod Answering
 pub mod Beginning
 pub mod Delivering
+pub mod Drawing
 pub mod Failing
 pub mod Filed
 pub mod First
@@ -18,5 +19,4 @@ pub mod Spelling
 pub mod Standing
 pub mod Starting
 pub mod Striking
-pub mod Weights
 pub mod Works

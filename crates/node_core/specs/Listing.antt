@@ -1,21 +1,15 @@
--- What a Login finds: the listing of a mailbox.
+-- What a node tells of a user's messages that are here.
 use Rattle.std.specs.Prelude.{◌≡◌, ℕ, Bool, List, [], ◌∷◌, length, Option, Some, None, if◌then◌else◌}
 use Rattle.std.specs.Ordering.{is_lt}
 use Rattle.std.specs.List.Sorted.{IsSortedBy}
 use Rattle.mail_model.specs.Identity.{Id, State}
 use Rattle.mail_model.specs.Identity.Key.{Message}
 use Rattle.mail_model.specs.Listing.{is_here, octets_in}
-use Rattle.mail_model.specs.Plan.{Plan, Users, Proof}
 use Rattle.mail_model.specs.Record.{Record}
 use Rattle.object_model.specs.Said.{said}
-use Rattle.mail_base.specs.declared.item.Item.{Item}
-use Rattle.call_tickets.specs.declared.answer.Answer.{Answer}
-use Rattle.cluster_model.specs.Reads.{ListedCopy, Found, copy_cmp}
-use Rattle.cluster_model.specs.Steps.NodeCall.{Login}
-use Rattle.cluster_model.specs.Makes.{IsFound}
-use Rattle.node_tickets.specs.Seen.{copy_seen, found_in}
-use Rattle.node_core.specs.Nodes.{NodeKeeps}
-use Rattle.node_core.specs.declared.node.Node.{Node}
+use Rattle.object_model.specs.Letters.{ToldItem}
+use Rattle.cluster_model.specs.Reads.{ListedCopy, copy_cmp}
+use Rattle.login_model.specs.Facts.{copy_told}
 
 -- a message of a listing, where this state says that the user's copy is here
 abbrev pub copy_by : Id → State → ℕ → Option ListedCopy
@@ -40,14 +34,8 @@ copies_for user records [] = []
 copies_for user records (id ∷ ids) = with_copy (copy_of user records id) (copies_for user records ids)
 
 -- which of two messages of a listing comes first
-abbrev pub comes_first : Item → Item → Bool
-comes_first item other = is_lt (copy_cmp (copy_seen item) (copy_seen other))
+abbrev pub comes_first : ToldItem → ToldItem → Bool
+comes_first item other = is_lt (copy_cmp (copy_told item) (copy_told other))
 
-abbrev pub AreInOrder : List Item → Type 0
+abbrev pub AreInOrder : List ToldItem → Type 0
 AreInOrder items = IsSortedBy comes_first items
-
--- What a Login finds, whatever the records of the disk are.
-pub record MailboxFound (users : Users) (user : List ℕ) (proof : Proof) (node : Node) (answer : Answer) : Type 0 where
-  pub found : Found
-  pub is : found_in answer ≡ Some found
-  pub those : (plan : Plan) → users ≡ plan.users → (tells : Bool) (records : List Record) → NodeKeeps records node → IsFound plan tells records (Login user proof) found

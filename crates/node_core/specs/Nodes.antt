@@ -73,3 +73,13 @@ pub record ChangesTickets (tickets : plain.Tickets) (old new : Node) : Type 0 wh
   pub keeps : (records : List Record) → NodeKeeps records old → NodeKeeps records new
   pub works : (seen : Option (List ℕ)) → CanWork seen old → CanWork seen new
   pub end_is : end_in new ≡ end_in old
+
+-- it is this node in the machine's words, and its store is as it was
+pub record Becomes (seen : plain.Node) (old new : Node) : Type 0 where
+  pub seen_is : node_seen new ≡ seen
+  pub store : new.store ≡ old.store
+  pub same : IsSameNode old new
+  pub keeps : (records : List Record) → NodeKeeps records old → NodeKeeps records new
+  pub works : (seen : Option (List ℕ)) → CanWork seen old → CanWork seen new
+  pub whole : IsWhole old → IsWhole new
+  pub end_is : end_in new ≡ end_in old

@@ -209,8 +209,14 @@ impl Node {
         Ok((Some(ticket), Outbox::sent(letters)))
     }
 
-    /// Begins a delivery.
-    pub(crate) fn deliver<D: Disk>(
+    /// Begins a delivery under the next ticket, at these seconds since 1970: the message is recorded where the node is one of its
+    /// targets, and the letters to the others are answered. It fails at once where the epoch has fewer than F members or none, and
+    /// where the seconds are past the last year that a date can have.
+    ///
+    /// # Errors
+    ///
+    /// `Worn` exactly where a number that the call would draw is used up.
+    pub fn deliver<D: Disk>(
         &mut self,
         alloc: Global,
         disk: &mut D,

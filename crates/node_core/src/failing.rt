@@ -1,5 +1,5 @@
 //! Calls that fail at once.
-ghost use Rattle.std.specs.Prelude.{◌≡◌, max, nat_lt, nat_le, length, not, is_some};
+ghost use Rattle.std.specs.Prelude.{◌≡◌, max, nat_lt, nat_le, length};
 ghost use Rattle.object_model.specs.Mishaps.{mishaps_of};
 ghost use Rattle.cluster_model.specs.Steps.{end_of_dates};
 ghost use Rattle.node_tickets.specs.Seen.{kind_seen, mishaps_seen};
@@ -12,11 +12,10 @@ use crate::node::Node;
 use crate::outbox::Outbox;
 use call_tickets::Mishaps;
 use mail_base::{CallKind, NodeNo, Ticket};
-use membership::Install;
 use std::alloc::Global;
 
-// What befalls a call for which there are too few members.
-fn few_if(few: bool) -> Mishaps
+/// What befalls a call for which there are too few members.
+pub(crate) fn few_if(few: bool) -> Mishaps
     ensures { mishaps_seen result ≡ few_seen few }
 {
     Mishaps {
@@ -35,13 +34,6 @@ pub(crate) fn few_members(members: &[NodeNo], confirm: u8) -> Mishaps
     ensures { mishaps_seen result ≡ few_seen (nat_lt (length members.now) (max 1 confirm)) }
 {
     few_if(members.len() < usize::from(confirm.max(1)))
-}
-
-/// What befalls a call that reads: its node has to have installed an epoch.
-pub(crate) fn without_epoch(installed: &Option<Install>) -> Mishaps
-    ensures { mishaps_seen result ≡ few_seen (not (is_some installed.now)) }
-{
-    few_if(installed.is_none())
 }
 
 /// The same of a delivery at these seconds.

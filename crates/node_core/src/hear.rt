@@ -14,7 +14,6 @@ ghost use Rattle.node_store.specs.Disks.{view_of};
 ghost use Rattle.node_core.specs.Nodes.{node_seen, IsWhole, CanWork, IsNodeOf};
 ghost use Rattle.node_core.specs.Spelling.{CanBeTaken, IsShort};
 ghost use Rattle.node_core.specs.Answering.{answers_to};
-ghost use Rattle.node_core.specs.Weights.{weight_of, weight_of_all};
 ghost use Rattle.node_core.specs.Works.{LeavesUp, WroteNode, SentLetters, HasLearned, TicketsAreTold};
 ghost use Rattle.node_core.specs.Hearing.{HearsLetter};
 
@@ -161,7 +160,6 @@ impl Node {
         requires works { CanWork (D.seen disk.old) self.old }
         requires object { IsObject (key_seen key.now) state.now }
         ensures wrote { SentLetters (view_of D.seen D.faults D.clock) (λ node disk. hear_ack self.old.store.own self.old.shape.nodes node disk (key_seen key.now) state.now from) result self.old disk.old self.new disk.new }
-        ensures light { IfOk result (λ letters. weight_of_all letters ≤ 16) }
         ensures settled { OnOk result (D.settled disk.old → D.settled disk.new) }
     {
         match self.store.acknowledged(alloc, disk, key, state, from)? {
@@ -214,7 +212,6 @@ impl Node {
         requires spelt { CanBeTaken letter.now.body }
         requires answers { answers ≡ answers_to letter.now letter.now.body }
         ensures wrote { SentLetters (view_of D.seen D.faults D.clock) (λ node disk. hear_body self.old.store.own self.old.shape.nodes node disk letter.now letter.now.body) result self.old disk.old self.new disk.new }
-        ensures light { IfOk result (λ letters. weight_of_all letters < weight_of letter.now) }
         ensures settled { OnOk result (D.settled disk.old → D.settled disk.new) }
     {
         match &letter.body {
@@ -280,7 +277,6 @@ impl Node {
         requires spelt { CanBeTaken letter.now.body }
         requires answers { answers ≡ answers_to letter.now letter.now.body }
         ensures wrote { SentLetters (view_of D.seen D.faults D.clock) (λ node disk. hear self.old.store.own self.old.shape.nodes node disk letter.now) result self.old disk.old self.new disk.new }
-        ensures light { IfOk result (λ letters. weight_of_all letters < weight_of letter.now) }
         ensures settled { OnOk result (D.settled disk.old → D.settled disk.new) }
     {
         self.learn(&letter.body);
@@ -302,7 +298,6 @@ impl Node {
         requires works { CanWork (D.seen disk.old) self.old }
         requires spelt { CanBeTaken letter.now.body }
         ensures hears { (plan : PlainPlan) (own : ℕ) → IsNodeOf plan own self.old → HearsLetter (view_of D.seen D.faults D.clock) own plan.nodes letter.now self.old disk.old self.new disk.new result }
-        ensures light { IfOk result (λ outbox. weight_of_all outbox.letters < weight_of letter.now) }
         ensures settled { LeavesUp result → D.settled disk.old → D.settled disk.new }
     {
         if let Some(why) = self.throws(letter) {

@@ -2,8 +2,9 @@
 //!
 //! SUMMARY
 //!
-//! A `Node` is a node's store with its numbers and the tickets of its calls. `start` begins one over its disk, `begin` takes a
-//! call of a client, and `hear` takes a letter of another node. Each answers the letters that are to be sent.
+//! A `Node` is a node's store with its numbers and the tickets of its deliveries and deletions. `start` begins one over its disk,
+//! `deliver` and `strike` begin these calls, and `hear` takes a letter of another node. Each answers the letters that are to be
+//! sent. What calls that read need of a node is here, too: their numbers, and what its disk tells of a user.
 //!
 //! DESCRIPTION
 //!
@@ -16,7 +17,11 @@
 //! | `start` | the disk is started again, the journal is read, and the record of the next boot is appended |
 //! | `start_with_promise` | so it is, and the last epoch that was promised is told |
 //! | `promise` | the record of a promise is appended |
-//! | `begin` | a call gets its ticket; what it files or marks is recorded, and its letters are answered; what it reads is found |
+//! | `deliver`, `strike` | a call gets its ticket; what it files or marks is recorded, and its letters are answered |
+//! | `refuse_read` | a call that reads gets a ticket, which says that it failed at once |
+//! | `next_ticket`, `draw_ticket` | the number of a call that reads is told, and drawn |
+//! | `told_list` | a user's messages that are here are listed |
+//! | `told_part` | a part of a message is read from the disk |
 //! | `hear` | the stamps are learned, and the letter does its work: File, Filed, Strike, StrikeTold, Push, PushAck, Retired |
 //! | `ask` | an answer of a ticket is taken, as far as it is told |
 //! | `give_up` | a ticket goes |
@@ -31,8 +36,8 @@
 //! A letter is heard by reference: where it is refused since memory ran out it can be heard again. Octets are moved into the
 //! journal's write, and are not copied for each user.
 //!
-//! `state`, `users`, `ids`, `is_settled`, `kind`, `wants`, `waiting`, `filing`, `is_done`, `own`, `boot`, `epoch` and `store` tell what
-//! the node has, and change nothing.
+//! `state`, `users`, `ids`, `is_settled`, `kind`, `wants`, `waiting`, `filing`, `is_done`, `own`, `boot`, `epoch`, `is_worn`,
+//! `member_set`, `members_among` and `store` tell what the node has, and change nothing.
 //!
 //! DIAGNOSTICS
 //!
@@ -46,23 +51,24 @@
 //!
 //! The costs are those of the store. A letter costs one pass over its users or its marks, and one over the nodes.
 //!
-//! A login asks the disk nothing. It looks through the user's own objects, those that are gone among them, with a few look-ups
-//! for each that take time logarithmic in the number of all, and sorts what it lists. It takes memory for three lists of the
-//! user's messages, and none for those of other users. `is_settled` is a pass over the update log for each member.
+//! `told_list` asks the disk nothing. It looks through the user's own objects, those that are gone among them, with a few look-ups
+//! for each that take time logarithmic in the number of all, and sorts what it lists. It takes memory for two lists of the user's
+//! messages, and none for those of other users. `is_settled` is a pass over the update log for each member.
 //!
 //! STANDS ON
 //!
-//! `node_store`, `node_tickets`, `membership`, `mail_base`, `call_tickets`, `trace_lines` and `sha2`; the rules are those of `cluster_model`.
+//! `node_store`, `node_tickets`, `membership`, `mail_base`, `call_tickets`, `trace_lines` and `sha2`; the rules are those of
+//! `cluster_model`, and what is told of a user is that of `login_model`.
 //!
 //! WHAT IT DOES NOT DO
 //!
-//! It sends nothing and knows no time but the seconds of a delivery. The bodies of logins, of members and of maps do nothing:
-//! whoever forms an epoch hands it in by `install`. A node that has started has no epoch.
+//! It sends nothing and knows no time but the seconds of a delivery. Letters of calls that read, of members and of
+//! maps do nothing here: the tickets of such calls are those of `node_reads`, and whoever forms an epoch hands it in by `install`. A node that has started has no epoch.
 #![tactic(auto)]
 
-mod begin;
 mod calls;
 mod deliver;
+mod drawing;
 mod failing;
 mod fault;
 mod filing;
@@ -71,7 +77,6 @@ mod hear;
 mod install;
 mod installed;
 mod letters;
-mod login;
 mod members;
 mod node;
 mod nodes;
@@ -87,6 +92,7 @@ mod spelling;
 mod strike;
 mod targets;
 mod throwing;
+mod told_list;
 
 pub use fault::NodeFault;
 pub use node::Node;

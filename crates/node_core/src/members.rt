@@ -4,7 +4,7 @@ ghost use Rattle.mail_model.specs.Grammar.{IsStamp};
 ghost use Rattle.object_model.specs.Sets.{nodes_in};
 ghost use Rattle.cluster_model.specs.Cluster.{members_of};
 ghost use Rattle.cluster_model.specs.Rules.{new_number};
-ghost use Rattle.cluster_model.specs.Steps.{greatest};
+ghost use Rattle.cluster_model.specs.Steps.{greatest, asked_of};
 ghost use Rattle.node_core.specs.Nodes.{node_seen, IsWhole};
 
 use crate::installed::members_in;
@@ -62,6 +62,14 @@ impl Node {
         members_in(&self.shape.installed)
     }
 
+    /// Those of these nodes that are members of its epoch. It takes no memory.
+    pub fn members_among(&self, holders: NodeSet) -> NodeSet
+        requires whole { IsWhole self.now }
+        ensures { result ≡ asked_of (node_seen self.now) holders }
+    {
+        NodeSet::from_mask(holders.mask() & self.member_set().mask())
+    }
+
     /// The members of its epoch, in rising order.
     pub(crate) fn members(&self, alloc: Global) -> Result<Vec<NodeNo>, AllocError>
         requires whole { IsWhole self.now }
@@ -88,8 +96,8 @@ impl Node {
         stamp_of(self.numbers.count + 1, self.numbers.boot, self.store.own())
     }
 
-    /// The ticket that its next call gets.
-    pub(crate) fn next_ticket(&self) -> Ticket
+    /// The ticket that its next call gets. It takes no memory.
+    pub fn next_ticket(&self) -> Ticket
         requires fresh { self.now.numbers.calls + 1 ≤ greatest }
         ensures { result ≡ new_number self.now.store.own (node_seen self.now) }
     {

@@ -199,8 +199,13 @@ impl Node {
         Ok((Some(ticket), Outbox::sent(letters)))
     }
 
-    /// Begins a deletion.
-    pub(crate) fn strike<D: Disk>(
+    /// Begins the deletion of these copies of the user under the next ticket: those that the node is asked for are recorded, and
+    /// the letters to the others are answered. It fails at once where the epoch has fewer than F members or none.
+    ///
+    /// # Errors
+    ///
+    /// `Worn` exactly where a number that the call would draw is used up.
+    pub fn strike<D: Disk>(
         &mut self,
         alloc: Global,
         disk: &mut D,

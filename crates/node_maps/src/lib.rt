@@ -11,7 +11,7 @@
 //! one (`find`). It opens a group (`start_group`), hears the letters Group, Join, Install, Report and
 //! ReportAck (`hear`), concludes its group (`conclude`), reports its rows that are due (`report`), and notes
 //! each message that comes to be here or is here no more (`note`). It tells whether a row is due to a node
-//! (`owes_rows`), and whom it names as having mail of a user (`named`).
+//! (`owes_rows`), who manages a user (`manager`), and whom it names as having mail of one (`named`).
 //!
 //! Contracts see the node of the machine in `maps_model` (`node_of`), and each call is that machine's rule:
 //! the node that is left, the letters in the machine's order, and why a letter is thrown. The disk is any
@@ -33,7 +33,7 @@
 //!
 //! `membership` for epochs, `map_rebuild` for versions and for which rows are due, `mail_map` for rows,
 //! `mailbox_fragment` for the messages that are here, `user_map` for who manages a user, `maps_model` for
-//! the rules.
+//! the rules, and `joint_model` for what calls that read see of maps.
 //!
 //! WHAT IT DOES NOT DO
 //!

@@ -18,6 +18,7 @@ use Rattle.login_model.specs.Progress.ReadAnswer.{Lists, Denies, Gives, Fails}
 use Rattle.login_model.specs.Progress.ReadAsk.{Pending, Done}
 use Rattle.login_model.specs.Listing.{LoginItem, IsMergeOfTold}
 use Rattle.told_lists.specs.Joining.{login_item}
+use Rattle.node_reads.specs.Readings.{login_waits, may_hold_lock}
 
 -- An answer of the code says what the machine's does, for the ticket of this number. A listing has what was told, joined; a manager that names nodes denies nobody.
 abbrev pub AnswersAs : Number → ReadAnswer → Answer → Type 0
@@ -62,9 +63,23 @@ abbrev pub managed_user : ℕ → Reading → Option (List ℕ)
 managed_user own (LogsIn login) = if nat_eq login.manager own then Some login.user else None
 managed_user own (Fetches fetch) = None
 
-abbrev pub managed_user_at : ℕ → Option ReadTicket → Option (List ℕ)
-managed_user_at own None = None
-managed_user_at own (Some ticket) = managed_user own ticket.reading
+-- the user of a login that the node manages itself, where a mishap at a node makes the login fail
+abbrev pub user_befallen : ℕ → ℕ → Reading → Option (List ℕ)
+user_befallen own at (LogsIn login) = if login_waits at login login.stage then managed_user own (LogsIn login) else None
+user_befallen own at (Fetches fetch) = None
+
+abbrev pub user_befallen_at : ℕ → ℕ → Option ReadTicket → Option (List ℕ)
+user_befallen_at own at None = None
+user_befallen_at own at (Some ticket) = user_befallen own at ticket.reading
+
+-- the user of a login that the node manages itself, where it may have given the login a lock
+abbrev pub user_held : ℕ → Reading → Option (List ℕ)
+user_held own (LogsIn login) = if may_hold_lock login.stage then managed_user own (LogsIn login) else None
+user_held own (Fetches fetch) = None
+
+abbrev pub user_held_at : ℕ → Option ReadTicket → Option (List ℕ)
+user_held_at own None = None
+user_held_at own (Some ticket) = user_held own ticket.reading
 
 -- a call is done, with this answer
 abbrev pub DoneAs : Number → ReadAsk → Answer → Type 0

@@ -16,8 +16,8 @@ use mail_base::{
     ToldItem, ToldPart, Users,
 };
 
-// Whether the proof is right by the secret of the user.
-fn opens(users: &Users, user: &Name, proof: &Proof) -> bool
+/// Whether the proof is right by the secret that the plan has of the user. It takes no memory.
+pub fn opens(users: &Users, user: &Name, proof: &Proof) -> bool
     ensures { result ≡ is_right_by (fin.get users.now user.now) (proof_seen proof.now) }
 {
     match users.secret(user) {

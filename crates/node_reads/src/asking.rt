@@ -1,8 +1,8 @@
 //! What an ask of a ticket gives.
-ghost use Rattle.std.specs.Prelude.{◌≡◌, map, IfOk, OnErr};
+ghost use Rattle.std.specs.Prelude.{◌≡◌, true, map, IfOk, OnErr};
 ghost use Rattle.std.specs.FinMap as fin;
 ghost use Rattle.told_lists.specs.Joining.{login_item};
-ghost use Rattle.node_reads.specs.Asking.{CanEnd, AskedIn, EndsIn};
+ghost use Rattle.node_reads.specs.Asking.{CanEnd, AskedIn, EndsIn, done_at};
 ghost use Rattle.node_reads.specs.Tables.{seen};
 
 use crate::progress::ReadProgress;
@@ -27,13 +27,14 @@ fn end_at(entries: &mut BTreeMap<u64, ReadProgress>, ticket: Ticket, items: Item
 ///
 /// # Errors
 ///
-/// Out of memory alone; the tickets are then as before.
+/// Out of memory alone, where the call is done; the tickets are then as before.
 pub(crate) fn ask_at(
     entries: &mut BTreeMap<u64, ReadProgress>,
     alloc: Global,
     ticket: Ticket,
 ) -> Result<Option<Ask>, AllocError>
     ensures ok { IfOk result (λ ask. AskedIn ticket (seen entries.old.entries) (fin.get (seen entries.old.entries) ticket.seq) ask (seen entries.new.entries)) }
+    ensures done { OnErr result (done_at (fin.get (seen entries.old.entries) ticket.seq) ≡ true) }
     ensures err { OnErr result (seen entries.new.entries ≡ seen entries.old.entries) }
 {
     let Some(progress) = get_in(entries, ticket.seq) else {

@@ -16,10 +16,10 @@
 //! mishaps for which it failed.
 //!
 //! Of a ticket: `stands` says whether there is one, `kind` of which kind its call is, `user` whose login it is,
-//! `managed_user` the same where the node itself is the manager, `is_done` whether `ask` has an answer, and `chances`
-//! how many letters mishaps may still send for it.
+//! `user_befallen` and `user_held` whose lock the node itself lets go at a mishap and as the login is given up,
+//! `is_done` whether `ask` has an answer, and `chances` how many letters mishaps may still send for it.
 //!
-//! As manager and holder: `judge` gives the word of a manager by the plan's secret, and `answer_login`,
+//! As manager and holder: `opens` judges a proof by the plan's secret, `judge` gives the word of a manager by it, and `answer_login`,
 //! `answer_list` and `answer_fetch` are the letters that answer. `leave` gives a lock back at the end of a
 //! session; it has no ticket.
 //!
@@ -48,8 +48,7 @@
 //! WHAT IT DOES NOT DO
 //!
 //! It sends nothing, and knows no disk and no maps. It takes no locks of maildrops: the letters that give one back are
-//! sent all the same. A manager judges by the secrets of the plan, and not by profiles. No line of the program uses
-//! it yet.
+//! sent all the same. A manager judges by the secrets of the plan, and not by profiles.
 #![tactic(auto)]
 
 mod answering;
@@ -64,5 +63,5 @@ mod progress;
 mod reads;
 mod under;
 
-pub use answering::{answer_fetch, answer_list, answer_login, judge, leave};
+pub use answering::{answer_fetch, answer_list, answer_login, judge, leave, opens};
 pub use reads::NodeReads;

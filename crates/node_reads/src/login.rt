@@ -106,8 +106,8 @@ impl Login {
         &self.user
     }
 
-    /// Its user, where this node is its manager.
-    pub(crate) fn managed_user(&self, own: NodeNo) -> Option<&Name>
+    // Its user, where this node is its manager.
+    fn managed_user(&self, own: NodeNo) -> Option<&Name>
         ensures { option_copied result ≡ (if nat_eq self.now.manager own then Some self.now.user else None) }
     {
         if self.manager == own {
@@ -115,6 +115,26 @@ impl Login {
         } else {
             None
         }
+    }
+
+    /// Its user, where this node is its manager and a mishap at that one makes it fail.
+    pub(crate) fn user_befallen(&self, own: NodeNo, at: NodeNo) -> Option<&Name>
+        ensures { option_copied result ≡ (if login_waits at self.now self.now.stage then (if nat_eq self.now.manager own then Some self.now.user else None) else None) }
+    {
+        if !self.waits_for(at) {
+            return None;
+        }
+        self.managed_user(own)
+    }
+
+    /// Its user, where this node is its manager and may have given it a lock.
+    pub(crate) fn user_held(&self, own: NodeNo) -> Option<&Name>
+        ensures { option_copied result ≡ (if may_hold_lock self.now.stage then (if nat_eq self.now.manager own then Some self.now.user else None) else None) }
+    {
+        if !self.may_hold_lock() {
+            return None;
+        }
+        self.managed_user(own)
     }
 
     /// How many letters mishaps may still send for it.

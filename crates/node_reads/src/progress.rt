@@ -10,7 +10,7 @@ ghost use Rattle.login_model.specs.Rules.{befell, give_up};
 ghost use Rattle.login_model.specs.Progress.{ask_read, chances};
 ghost use Rattle.told_lists.specs.Joining.{login_item};
 ghost use Rattle.node_tickets.specs.Seen.{kind_of_mishap};
-ghost use Rattle.node_reads.specs.Asking.{DoneAs, ReadingLists, pending_of, is_done, kind_of, managed_user};
+ghost use Rattle.node_reads.specs.Asking.{DoneAs, ReadingLists, pending_of, is_done, kind_of, user_befallen, user_held};
 ghost use Rattle.node_reads.specs.Seen.{reading_seen};
 ghost use Rattle.node_reads.specs.Readings.{listed, user_of_login};
 ghost use Rattle.node_reads.specs.Tickets.{ticket_did, ticket_told, ticket_befell};
@@ -73,12 +73,22 @@ impl ReadProgress {
         }
     }
 
-    /// The user of a login that this node manages.
-    pub(crate) fn managed_user(&self, own: NodeNo) -> Option<&Name>
-        ensures { option_copied result ≡ managed_user own self.now.reading }
+    /// The user of a login that this node manages, where a mishap at that one makes it fail.
+    pub(crate) fn user_befallen(&self, own: NodeNo, at: NodeNo) -> Option<&Name>
+        ensures { option_copied result ≡ user_befallen own at self.now.reading }
     {
         match &self.reading {
-            Reading::LogsIn(login) => login.managed_user(own),
+            Reading::LogsIn(login) => login.user_befallen(own, at),
+            Reading::Fetches(_) => None,
+        }
+    }
+
+    /// The user of a login that this node manages, where it may have given the login a lock.
+    pub(crate) fn user_held(&self, own: NodeNo) -> Option<&Name>
+        ensures { option_copied result ≡ user_held own self.now.reading }
+    {
+        match &self.reading {
+            Reading::LogsIn(login) => login.user_held(own),
             Reading::Fetches(_) => None,
         }
     }

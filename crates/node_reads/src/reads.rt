@@ -15,7 +15,7 @@ ghost use Rattle.login_model.specs.Rules as rules;
 ghost use Rattle.login_model.specs.Rules.{begin_login, begin_fetch};
 ghost use Rattle.node_tickets.specs.Seen.{kind_of_mishap};
 ghost use Rattle.node_reads.specs.Seen.{reading_seen};
-ghost use Rattle.node_reads.specs.Asking.{done_at, kind_at, chances_at, managed_user_at};
+ghost use Rattle.node_reads.specs.Asking.{done_at, kind_at, chances_at, user_befallen_at, user_held_at};
 ghost use Rattle.node_reads.specs.Readings.{listed, user_at};
 ghost use Rattle.node_reads.specs.Tables.{seen, reads_in, IsOf, is_own, ticket_at, Begins, Hears, Befalls, GivesUp, Asks};
 ghost use Rattle.node_reads.specs.Tickets.{ticket_told, ticket_befell, did_if_stands, taken_if_stands, letters_given_up};
@@ -204,13 +204,24 @@ impl NodeReads {
         }
     }
 
-    /// Whose lock the own node lets go, where a login fails or is given up: the user of a login that the node manages itself; nothing
-    /// where no such login stands under the number. It takes no memory.
-    pub fn managed_user(&self, ticket: Ticket) -> Option<&Name>
-        ensures { option_copied result ≡ managed_user_at self.now.own (ticket_at self.now ticket) }
+    /// Whose lock the own node lets go at a mishap of a letter to or from the node: the user of a login that the own node manages, and
+    /// that fails by the mishap; nothing where no such login stands under the number. It takes no memory.
+    pub fn user_befallen(&self, ticket: Ticket, at: NodeNo) -> Option<&Name>
+        ensures { option_copied result ≡ user_befallen_at self.now.own at (ticket_at self.now ticket) }
     {
         match self.find(ticket) {
-            Some(progress) => progress.managed_user(self.own),
+            Some(progress) => progress.user_befallen(self.own, at),
+            None => None,
+        }
+    }
+
+    /// Whose lock the own node lets go as a login is given up: the user of a login that the own node manages and may have given a lock;
+    /// nothing where no such login stands under the number. It takes no memory.
+    pub fn user_held(&self, ticket: Ticket) -> Option<&Name>
+        ensures { option_copied result ≡ user_held_at self.now.own (ticket_at self.now ticket) }
+    {
+        match self.find(ticket) {
+            Some(progress) => progress.user_held(self.own),
             None => None,
         }
     }
@@ -485,9 +496,10 @@ impl NodeReads {
     ///
     /// # Errors
     ///
-    /// Out of memory alone; the tickets are then as before.
+    /// Out of memory alone, where the call is done; the tickets are then as before.
     pub fn ask(&mut self, alloc: Global, ticket: Ticket) -> Result<Option<Ask>, AllocError>
         ensures ok { IfOk result (λ ask. Asks ticket ask self.old self.new) }
+        ensures done { OnErr result (done_at (ticket_at self.old ticket) ≡ true) }
         ensures err { OnErr result (reads_in self.new ≡ reads_in self.old) }
         ensures whose { IsOf self.old.own self.old.boot self.new }
     {

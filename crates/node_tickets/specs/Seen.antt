@@ -1,5 +1,5 @@
 -- The code's tickets, answers and mishaps as the machine's.
-use Rattle.std.specs.Prelude.{IsTrue, ⊤, map, Option, Some, None, is_some}
+use Rattle.std.specs.Prelude.{map}
 use Rattle.mail_base.specs.declared.filing.Filing.{Filing}
 use Rattle.mail_base.specs.declared.filing.CallKind.{CallKind}
 use Rattle.mail_base.specs.declared.item.Item.{Item}
@@ -48,22 +48,12 @@ mishaps_seen m = record { few_members = m.few_members; year = m.year; dropped = 
 abbrev pub copy_seen : Item → ListedCopy
 copy_seen item = record { id = item.id; stamp = item.stamp; targets = item.targets; size = item.length }
 
--- what an answer says that a call found, if it answers a call that reads
-abbrev pub found_in : Answer → Option Found
-found_in (Listed login manager asked items) = Some (Found.Listed (map copy_seen items))
-found_in (Wrong stamp) = Some WrongSecret
-found_in (InUse by) = Some Found.InUse
-found_in (NoProfile manager) = Some Found.NoProfile
-found_in (Part octets whole) = Some (PartOf octets whole)
-found_in GoneAlready = Some NotThere
-found_in answer = None
-
 abbrev pub progress_seen : Answer → progress.NodeAnswer
 progress_seen (Stored id confirmers) = progress.NodeAnswer.Stored id confirmers
-progress_seen (Listed login manager asked items) = progress.NodeAnswer.Read (Found.Listed (map copy_seen items))
-progress_seen (Wrong stamp) = progress.NodeAnswer.Read WrongSecret
-progress_seen (InUse by) = progress.NodeAnswer.Read Found.InUse
-progress_seen (NoProfile manager) = progress.NodeAnswer.Read Found.NoProfile
+progress_seen (Listed login manager asked items) = progress.NodeAnswer.Read (Found.Listed login manager asked (map copy_seen items))
+progress_seen (Wrong stamp) = progress.NodeAnswer.Read (WrongSecret stamp)
+progress_seen (InUse by) = progress.NodeAnswer.Read (Found.InUse by)
+progress_seen (NoProfile manager) = progress.NodeAnswer.Read (Found.NoProfile manager)
 progress_seen (Part octets whole) = progress.NodeAnswer.Read (PartOf octets whole)
 progress_seen GoneAlready = progress.NodeAnswer.Read NotThere
 progress_seen (Dropped confirmers) = progress.NodeAnswer.Dropped confirmers.items
@@ -72,16 +62,3 @@ progress_seen (Failed mishaps) = progress.NodeAnswer.Failed (mishaps_seen mishap
 abbrev pub ask_seen : Ask → progress.Ask
 ask_seen (Pending got wanted) = progress.Ask.Pending got wanted
 ask_seen (Done answer) = progress.Ask.Done (progress_seen answer)
-
--- what a ticket holds that a call found
-abbrev pub found_seen : Option Answer → Option Found
-found_seen None = None
-found_seen (Some answer) = found_in answer
-
--- the answer says what a call found
-abbrev pub IsRead : Answer → Type 0
-IsRead answer = IsTrue (is_some (found_in answer))
-
-abbrev pub IsReadIfAny : Option Answer → Type 0
-IsReadIfAny None = ⊤
-IsReadIfAny (Some answer) = IsRead answer

@@ -99,7 +99,7 @@ wants_at (Some ticket) = ticket.wants
 
 -- the ticket of a deletion of a user's messages, each with the nodes that are asked for it
 abbrev pub ticket_of_deletion : ℕ → List ℕ → List (Id × ℕ) → plain.Ticket
-ticket_of_deletion own user asks = record { kind = plain.CallKind.Striking; wants = map (λ item. new_want own (plain.AskedOfNodes.Deletion user item.0) item.1) asks; mishaps = no_mishaps; found = None }
+ticket_of_deletion own user asks = record { kind = plain.CallKind.Striking; wants = map (λ item. new_want own (plain.AskedOfNodes.Deletion user item.0) item.1) asks; mishaps = no_mishaps }
 
 -- what a delivery filed
 abbrev pub filed_seen : Option Filing → Option plain.NodeFiling

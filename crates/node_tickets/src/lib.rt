@@ -10,13 +10,12 @@
 //!
 //! `Tickets` changes its tickets in place: a confirmation that is heard and a mishap that is noted take no memory. A contract
 //! sees the finite map from numbers to tickets of the machine of `cluster_model`, and each call does to it what the machine's
-//! rule does: `open_delivery`, `open_deletion`, `open_failed` and `open_found` insert the ticket with which a call begins, `told` and
-//! `mishap` put the ticket that was told in its place, `ask` gives what the machine's ask gives, and takes a ticket out that is
+//! rule does: `open_delivery`, `open_deletion` and `open_failed` insert the ticket with which a call begins, `told` and `mishap`
+//! put the ticket that was told in its place, `ask` gives what the machine's ask gives, and takes a ticket out that is
 //! done. The answers themselves are those of `call_tickets`.
 //!
 //! A delivery asks its targets for copies of one message, and a deletion asks for each of its items the nodes that are to
-//! delete it. A call that fails at once asks nothing. A call that reads asks nothing either: its ticket has the answer, which an
-//! ask hands out.
+//! delete it. A call that fails at once asks nothing.
 //!
 //! STANDS ON
 //!
@@ -25,7 +24,8 @@
 //!
 //! WHAT IT DOES NOT DO
 //!
-//! It sends no letters and knows no disk. The tickets of logins and fetches that ask other nodes are not here yet.
+//! It sends no letters and knows no disk. The tickets of logins and fetches are those of `node_reads`; one that fails at
+//! once has its ticket here.
 #![tactic(auto)]
 
 mod mishap;

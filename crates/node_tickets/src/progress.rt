@@ -3,29 +3,25 @@ ghost use Rattle.std.specs.Prelude.{◌≡◌, ◌≤◌, ◌-◌, ℕ, [], leng
 ghost use Rattle.std.specs.Option.{option_copied};
 ghost use Rattle.std.specs.List.{list_any, list_all, filter};
 ghost use Rattle.object_model.specs.Sets.{has};
-ghost use Rattle.object_model.specs.Mishaps.{no_mishaps};
 ghost use Rattle.mail_base.specs.Bodies.{body_seen};
 ghost use Rattle.cluster_model.specs.Rules.{told_want, failed_want, told_ticket};
 ghost use Rattle.cluster_model.specs.Progress.{is_confirmed, can_be_confirmed, has_failed, answer_once_confirmed, ask_of_wants, ask_of};
 ghost use Rattle.cluster_model.specs.Progress.Ask.{Done};
-ghost use Rattle.node_tickets.specs.Seen.{kind_of_mishap, kind_seen, mishaps_seen, found_in, IsRead, ask_seen, progress_seen};
+ghost use Rattle.node_tickets.specs.Seen.{kind_of_mishap, kind_seen, mishaps_seen, ask_seen, progress_seen};
 ghost use Rattle.node_tickets.specs.Standing.{is_done, failed_ticket, filed_seen, filing_wanted};
 
-use crate::mishap::{MishapKind, count, none};
+use crate::mishap::{MishapKind, count};
 use crate::want::{Asked, Want};
 use call_tickets::{Answer, Ask, Mishaps};
 use mail_base::{Body, CallKind, Filing, NodeNo, NodeSet};
-use std::alloc::Global;
 use std::marker::Model;
 
-/// A ticket: the kind of its call, what it wants, what befell it, and what it found. A contract sees the machine's ticket.
+/// A ticket: the kind of its call, what it wants, and what befell it. A contract sees the machine's ticket.
 #[derive(Drop)]
 pub(crate) struct Progress {
     kind: CallKind,
     wants: Vec<Want>,
     mishaps: Mishaps,
-    // the answer to a call that reads, which has it as it begins
-    found: Option<Answer>,
     // room for the confirmers of each want, so that the answer to a deletion takes no memory
     room: Vec<NodeSet>,
 }
@@ -33,20 +29,21 @@ pub(crate) struct Progress {
 impl Model for Progress {
     ghost use Rattle.std.specs.Prelude.{◌≡◌, ◌≤◌, ◌-◌, [], length, vec_len, vec_capacity};
     ghost use Rattle.cluster_model.specs.Cluster as plain;
-    ghost use Rattle.node_tickets.specs.Seen.{kind_seen, mishaps_seen, found_seen, IsReadIfAny};
+    ghost use Rattle.node_tickets.specs.Seen.{kind_seen, mishaps_seen};
 
     ghost Value = { plain.Ticket };
 
-    ghost view = { λ p. record { kind = kind_seen p.kind; wants = p.wants.items; mishaps = mishaps_seen p.mishaps; found = found_seen p.found } };
+    ghost view = { λ p. record { kind = kind_seen p.kind; wants = p.wants.items; mishaps = mishaps_seen p.mishaps } };
 
-    ghost invariant = { λ p. (p.room.items ≡ []) × (length p.wants.items ≤ vec_capacity p.room - vec_len p.room) × IsReadIfAny p.found };
+    ghost invariant = { λ p. (p.room.items ≡ []) × (length p.wants.items ≤ vec_capacity p.room - vec_len p.room) };
 }
 
 fn tell_all(wants: &mut Vec<Want>, body: &Body, from: NodeNo)
     ensures { wants.new.items ≡ map (told_want (body_seen body.now) from) wants.old.items }
 {
+    let mut next = 0;
     for want in wants.iter_mut() {
-        want.told(body, from);
+        want.told(body, from, &mut next);
     }
 }
 
@@ -144,28 +141,13 @@ impl Progress {
     ) -> Progress
         requires empty { room.items ≡ [] }
         requires spare { length wants.items ≤ vec_capacity room - vec_len room }
-        ensures { result ≡ record { kind = kind_seen kind; wants = wants.items; mishaps = mishaps_seen mishaps; found = None } }
+        ensures { result ≡ record { kind = kind_seen kind; wants = wants.items; mishaps = mishaps_seen mishaps } }
     {
         Progress {
             kind,
             wants,
             mishaps,
-            found: None,
             room,
-        }
-    }
-
-    /// The ticket of a call that reads, with its answer.
-    pub(crate) fn read(alloc: Global, kind: CallKind, answer: Answer) -> Progress
-        requires { IsRead answer }
-        ensures { result ≡ record { kind = kind_seen kind; wants = []; mishaps = no_mishaps; found = found_in answer } }
-    {
-        Progress {
-            kind,
-            wants: Vec::new(alloc),
-            mishaps: none(),
-            found: Some(answer),
-            room: Vec::new(alloc),
         }
     }
 
@@ -227,9 +209,7 @@ impl Progress {
     pub(crate) fn is_done(&self, confirm: u8) -> bool
         ensures { result ≡ is_done (ask_of confirm self.now) }
     {
-        self.found.is_some()
-            || all_confirmed(&self.wants, confirm)
-            || some_failed(&self.wants, confirm)
+        all_confirmed(&self.wants, confirm) || some_failed(&self.wants, confirm)
     }
 
     /// How far a call has come that is not done.
@@ -261,12 +241,8 @@ impl Progress {
             kind: _,
             wants,
             mishaps,
-            found,
             room,
         } = self;
-        match found {
-            Some(answer) => answer,
-            None => answer_of(&wants, mishaps, room, confirm),
-        }
+        answer_of(&wants, mishaps, room, confirm)
     }
 }

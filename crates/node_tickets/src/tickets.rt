@@ -5,9 +5,8 @@ ghost use Rattle.std.specs.Ordering.{nat_cmp};
 ghost use Rattle.std.specs.FinMap as fin;
 ghost use Rattle.std.specs.BTreeMap as tree;
 ghost use Rattle.object_model.specs.Sets.{has};
-ghost use Rattle.object_model.specs.Mishaps.{no_mishaps};
 ghost use Rattle.mail_base.specs.Bodies.{body_seen};
-ghost use Rattle.node_tickets.specs.Seen.{kind_of_mishap, kind_seen, mishaps_seen, filing_seen, found_in, IsRead};
+ghost use Rattle.node_tickets.specs.Seen.{kind_of_mishap, kind_seen, mishaps_seen, filing_seen};
 ghost use Rattle.cluster_model.specs.Cluster.AskedOfNodes.{Copies, Deletion};
 ghost use Rattle.cluster_model.specs.Rules.{new_want};
 ghost use Rattle.cluster_model.specs.TicketLaws.{delivery_ticket};
@@ -16,7 +15,7 @@ ghost use Rattle.node_tickets.specs.Standing.{seen, asks_seen, asks_at, call_kin
 use crate::mishap::{MishapKind, none};
 use crate::progress::Progress;
 use crate::want::{Asked, Want};
-use call_tickets::{Answer, Ask, Mishaps};
+use call_tickets::{Ask, Mishaps};
 use mail_base::{Body, CallKind, Filing, MsgId, Name, NodeNo, NodeSet, Ticket};
 use std::alloc::{AllocError, Global};
 use std::collections::BTreeMap;
@@ -110,7 +109,7 @@ fn begun(
     wants: Vec<Want>,
     mishaps: Mishaps,
 ) -> Result<Progress, AllocError>
-    ensures { IfOk result (λ progress. progress ≡ record { kind = kind_seen kind; wants = wants.items; mishaps = mishaps_seen mishaps; found = None }) }
+    ensures { IfOk result (λ progress. progress ≡ record { kind = kind_seen kind; wants = wants.items; mishaps = mishaps_seen mishaps }) }
 {
     let room = room_for(alloc, &wants)?;
     Ok(Progress::new(kind, wants, mishaps, room))
@@ -234,33 +233,12 @@ impl Tickets {
         kind: CallKind,
         mishaps: Mishaps,
     ) -> Result<(), AllocError>
-        ensures ok { OnOk result (tickets_in self.new ≡ fin.insert (tickets_in self.old) seq (record { kind = kind_seen kind; wants = []; mishaps = mishaps_seen mishaps; found = None })) }
+        ensures ok { OnOk result (tickets_in self.new ≡ fin.insert (tickets_in self.old) seq (record { kind = kind_seen kind; wants = []; mishaps = mishaps_seen mishaps })) }
         ensures err { OnErr result (tickets_in self.new ≡ tickets_in self.old) }
         ensures whose { IsOf self.old.own self.old.boot self.old.confirm self.new }
     {
         let progress = begun(alloc, kind, Vec::new(alloc), mishaps)?;
         put_in(&mut self.entries, seq, progress)
-    }
-
-    /// Begins the ticket of a call that reads, which has its answer at once: what the call found. The answer is moved, and an ask
-    /// hands it out.
-    ///
-    /// # Errors
-    ///
-    /// Out of memory alone; the tickets are then as before.
-    pub fn open_found(
-        &mut self,
-        alloc: Global,
-        seq: u64,
-        kind: CallKind,
-        answer: Answer,
-    ) -> Result<(), AllocError>
-        requires { IsRead answer }
-        ensures ok { OnOk result (tickets_in self.new ≡ fin.insert (tickets_in self.old) seq (record { kind = kind_seen kind; wants = []; mishaps = no_mishaps; found = found_in answer })) }
-        ensures err { OnErr result (tickets_in self.new ≡ tickets_in self.old) }
-        ensures whose { IsOf self.old.own self.old.boot self.old.confirm self.new }
-    {
-        put_in(&mut self.entries, seq, Progress::read(alloc, kind, answer))
     }
 
     /// One answer is heard. Whoever waits or failed is confirmed where the letter tells that it was done; false exactly where the

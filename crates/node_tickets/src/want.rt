@@ -1,5 +1,5 @@
 //! Something that is asked of nodes, and how they answered.
-ghost use Rattle.std.specs.Prelude.{◌≡◌, ◌&&◌, if◌then◌else◌};
+ghost use Rattle.std.specs.Prelude.{◌≡◌, ◌&&◌, ◌||◌, true, IsTrue, if◌then◌else◌};
 ghost use Rattle.object_model.specs.Sets.{has, one_node, with_node, without_node};
 ghost use Rattle.mail_base.specs.declared.body.Body.TheVariants as body;
 ghost use Rattle.std.specs.List.{list_any};
@@ -50,10 +50,26 @@ fn same_id(one: &MsgId, id: &MsgId) -> bool
     one.node() == id.node() && one.boot() == id.boot() && one.seq() == id.seq()
 }
 
-fn has_id(ids: &Ids, id: &MsgId) -> bool
+// Whether this id stands at the place.
+fn is_at(ids: &[MsgId], place: usize, id: &MsgId) -> bool
+    ensures { IsTrue result → list_any (λ one. is_same_id one id.now) ids.now ≡ true }
+{
+    match ids.get(place) {
+        Some(one) => same_id(one, id),
+        None => false,
+    }
+}
+
+// Whether the ids have this one. It is looked for at the next place first, and then at each. A node that answers tells of its
+// deletions in the order in which it was asked for them, which is that of the wants, so that each stands at the next place.
+fn has_id(ids: &[MsgId], next: &mut usize, id: &MsgId) -> bool
     ensures { result ≡ list_any (λ one. is_same_id one id.now) ids.now }
 {
-    ids.as_slice().iter().any(|one| same_id(one, id))
+    if is_at(ids, *next, id) {
+        *next = next.saturating_add(1);
+        return true;
+    }
+    ids.iter().any(|one| same_id(one, id))
 }
 
 // Whether a letter that says that this message is filed tells that this was done.
@@ -66,21 +82,21 @@ fn is_copies(asked: &Asked, id: &MsgId) -> bool
     }
 }
 
-fn is_deletion(asked: &Asked, user: &Name, ids: &Ids) -> bool
+fn is_deletion(asked: &Asked, user: &Name, ids: &Ids, next: &mut usize) -> bool
     ensures { result ≡ tells (body_seen (body.StrikeTold user.now ids.now)) (asked_seen asked.now) }
 {
     match asked {
         Asked::Copies(_) => false,
-        Asked::Deletion { user: name, id } => user == name && has_id(ids, id),
+        Asked::Deletion { user: name, id } => user == name && has_id(ids.as_slice(), next, id),
     }
 }
 
-fn tells_of(body: &Body, asked: &Asked) -> bool
+fn tells_of(body: &Body, asked: &Asked, next: &mut usize) -> bool
     ensures { result ≡ tells (body_seen body.now) (asked_seen asked.now) }
 {
     match body {
         Body::Filed { id } => is_copies(asked, id),
-        Body::StrikeTold { user, ids } => is_deletion(asked, user, ids),
+        Body::StrikeTold { user, ids } => is_deletion(asked, user, ids, next),
         _ => false,
     }
 }
@@ -139,11 +155,18 @@ impl Want {
         self.failed = self.failed.without(from);
     }
 
-    /// Who waits or failed is confirmed, where the letter tells so.
-    pub(crate) fn told(&mut self, body: &Body, from: NodeNo)
+    // Whether the node is asked for it, and has not confirmed it.
+    fn awaits(&self, from: NodeNo) -> bool
+        ensures { result ≡ (has self.now.waiting from || has self.now.failed from) }
+    {
+        self.waiting.has(from) || self.failed.has(from)
+    }
+
+    /// Who waits or failed is confirmed, where the letter tells so. Of the letter's ids the next is expected at this place.
+    pub(crate) fn told(&mut self, body: &Body, from: NodeNo, next: &mut usize)
         ensures { self.new ≡ told_want (body_seen body.now) from self.old }
     {
-        if tells_of(body, &self.asked) && (self.waiting.has(from) || self.failed.has(from)) {
+        if self.awaits(from) && tells_of(body, &self.asked, next) {
             self.confirm(from);
         }
     }

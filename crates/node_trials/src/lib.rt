@@ -11,7 +11,7 @@
 //! |---|---|
 //! | `tests/calls.rt` | deliveries, deletions and pushes |
 //! | `tests/letters.rt` | letters that carry copies, and those that carry states |
-//! | `tests/logins.rt` | a mailbox as its reader finds it, and the parts of a message |
+//! | `tests/reads.rt` | a mailbox as its node lists it, the parts of a message, and the tickets of calls that read |
 //! | `tests/starts.rt` | a first boot, a start over a disk, and disks that are none of the node's |
 //! | `tests/promises.rt` | epochs that are promised, and whom a node knows |
 //! | `tests/falls.rt` | each call of the disk failing in turn |

@@ -24,51 +24,88 @@ mod epochs;
 mod falls;
 mod letters;
 mod lines;
-mod logins;
 mod opening;
 mod promises;
+mod reads;
 mod says;
 mod starts;
 mod store;
 mod tickets;
 
 ghost use Rattle.std.specs.Prelude.{◌≡◌, ℕ, List, Option, IfOk};
-ghost use Rattle.node_core.specs.Beginning.{IsTextEnded, call_seen};
+ghost use Rattle.mail_base.specs.Delivers.{mail_in};
+ghost use Rattle.cluster_model.specs.Steps.NodeCall.{Deliver as Delivers};
+ghost use Rattle.node_core.specs.Beginning.{IsTextEnded};
 ghost use Rattle.node_core.specs.Nodes.{CanWork, IsWhole};
 ghost use Rattle.node_core.specs.Spelling.{CanBeTaken};
 ghost use Rattle.node_core.specs.Works.{LeavesUp};
 
-use call_tickets::Call;
 use epochs::{installs, installs_all};
 use io_edge::Disk;
 use lines::{
-    at, deletion_at, deliver_at, digit, fetch_at, id_at, letter_at, lines_of, login_at, named,
-    node_at, room_at, secret_of, ticket_at,
+    at, deliver_at, digit, id_at, items_at, letter_at, lines_of, named, node_at, room_at, ticket_at,
 };
-use mail_base::{EpochId, Letter, MsgId, Name, NodeNo, Plan, Users};
+use mail_base::{CallKind, Deliver, EpochId, Item, Letter, MsgId, Name, NodeNo, Plan, Users};
 use node_core::{Node, NodeFault};
 use node_disk::MemoryDisk;
 use node_tickets::MishapKind;
-use says::{one, say_ask, say_ids, say_outbox, say_state, say_ticket, say_users, say_whether};
+use says::{
+    one, say_ask, say_ids, say_list, say_outbox, say_part, say_state, say_ticket, say_users,
+    say_whether,
+};
 use std::alloc::{AllocError, Global};
 use std::process::Abort;
 use std::test::Fail;
 
-fn begins<D: Disk>(
+fn delivers_now<D: Disk>(
     alloc: Global,
     disk: &mut D,
     node: &mut Node,
-    users: &Users,
-    call: Call,
+    deliver: Deliver,
     seconds: u64,
     out: &mut Vec<u8>,
 ) -> Result<(), NodeFault>
     requires works { CanWork (D.seen disk.old) node.old }
-    requires ended { IsTextEnded (call_seen call) }
+    requires ended { IsTextEnded (Delivers (mail_in deliver)) }
     ensures { LeavesUp result → CanWork (D.seen disk.new) node.new }
 {
-    let begun = node.begin(alloc, disk, users, call, seconds)?;
+    let begun = node.deliver(alloc, disk, deliver, seconds)?;
     say_outbox(out, &begun.1)?;
+    Ok(())
+}
+
+fn strikes<D: Disk>(
+    alloc: Global,
+    disk: &mut D,
+    node: &mut Node,
+    user: &Name,
+    items: &[Item],
+    out: &mut Vec<u8>,
+) -> Result<(), NodeFault>
+    requires works { CanWork (D.seen disk.old) node.old }
+    ensures { LeavesUp result → CanWork (D.seen disk.new) node.new }
+{
+    let begun = node.strike(alloc, disk, user, items)?;
+    say_outbox(out, &begun.1)?;
+    Ok(())
+}
+
+/// The node tells a part of ann's copy.
+fn tells_part<D: Disk>(
+    alloc: Global,
+    disk: &mut D,
+    node: &Node,
+    user: &Name,
+    id: MsgId,
+    from: u64,
+    most: u64,
+    out: &mut Vec<u8>,
+) -> Result<(), NodeFault>
+    requires works { CanWork (D.seen disk.old) node.now }
+    ensures { LeavesUp result → CanWork (D.seen disk.new) node.now }
+{
+    let part = node.told_part(alloc, disk, user, id, from, most)?;
+    say_part(out, &part)?;
     Ok(())
 }
 
@@ -209,6 +246,8 @@ fn tells(alloc: Global, node: &mut Node, line: &[u8], out: &mut Vec<u8>) -> Resu
         b'o' => say_whether(out, node.is_due(node_at(line, 2))),
         b'i' => say_ticket(node, ticket_at(line), out),
         b'l' => say_ids(alloc, node, out),
+        b'L' => say_list(alloc, node, out),
+        b't' => draws(node, out),
         b'I' => installs(alloc, node, line),
         b'u' => say_users(alloc, node, out),
         b'q' => say_whether(out, node.is_settled()),
@@ -232,12 +271,12 @@ fn delivers<D: Disk>(
     requires works { CanWork (D.seen disk.old) node.old }
     ensures { LeavesUp result → CanWork (D.seen disk.new) node.new }
 {
-    let call = deliver_at(alloc, line)?;
-    begins(alloc, disk, node, &Users::new(alloc), call, seconds, out)
+    let deliver = deliver_at(alloc, line)?;
+    delivers_now(alloc, disk, node, deliver, seconds, out)
 }
 
-/// A login over a plan with ann alone.
-fn logs_in<D: Disk>(
+/// The message is to be deleted, and with a 2 also the next one.
+fn deletes<D: Disk>(
     alloc: Global,
     disk: &mut D,
     node: &mut Node,
@@ -247,24 +286,48 @@ fn logs_in<D: Disk>(
     requires works { CanWork (D.seen disk.old) node.old }
     ensures { LeavesUp result → CanWork (D.seen disk.new) node.new }
 {
-    let call = login_at(alloc, line)?;
-    let mut users = Users::new(alloc);
-    users.insert(named(alloc, b"ann")?, secret_of(alloc)?)?;
-    begins(alloc, disk, node, &users, call, 0, out)
+    let ann = named(alloc, b"ann")?;
+    let items = items_at(alloc, line)?;
+    strikes(alloc, disk, node, &ann, items.as_slice(), out)
 }
 
+/// So many octets at most of the message, behind so many that are passed over.
 fn fetches<D: Disk>(
     alloc: Global,
     disk: &mut D,
-    node: &mut Node,
+    node: &Node,
     line: &[u8],
     out: &mut Vec<u8>,
 ) -> Result<(), NodeFault>
-    requires works { CanWork (D.seen disk.old) node.old }
-    ensures { LeavesUp result → CanWork (D.seen disk.new) node.new }
+    requires works { CanWork (D.seen disk.old) node.now }
+    ensures { LeavesUp result → CanWork (D.seen disk.new) node.now }
 {
-    let call = fetch_at(alloc, line)?;
-    begins(alloc, disk, node, &Users::new(alloc), call, 0, out)
+    let ann = named(alloc, b"ann")?;
+    let from = u64::from(digit(line, 8));
+    let most = u64::from(digit(line, 11));
+    tells_part(alloc, disk, node, &ann, id_at(line), from, most, out)
+}
+
+/// The ticket of a login that fails at once.
+fn refuses(alloc: Global, node: &mut Node, out: &mut Vec<u8>) -> Result<(), NodeFault>
+    requires whole { IsWhole node.old }
+    ensures works { (seen : Option (List ℕ)) → CanWork seen node.old → CanWork seen node.new }
+    ensures up { LeavesUp result }
+{
+    let ticket = node.refuse_read(alloc, CallKind::Login)?;
+    out.extend_from_slice(&[b' ', one(ticket.seq)])?;
+    Ok(())
+}
+
+/// The ticket of a call that reads, if one can be drawn.
+fn draws(node: &mut Node, out: &mut Vec<u8>) -> Result<(), AllocError>
+    ensures works { (seen : Option (List ℕ)) → CanWork seen node.old → CanWork seen node.new }
+{
+    if node.is_worn() {
+        return Ok(());
+    }
+    let ticket = node.draw_ticket();
+    out.extend_from_slice(&[b' ', one(ticket.seq)])
 }
 
 /// What the node does by the line. A Push finds room for as many letters as the line says, and for the octets of so many that
@@ -282,12 +345,9 @@ fn acts<D: Disk>(
     match at(line, 0) {
         b'd' => delivers(alloc, disk, node, line, 0, out),
         b'y' => delivers(alloc, disk, node, line, 253_402_300_800, out),
-        b'k' => {
-            let call = deletion_at(alloc, line)?;
-            begins(alloc, disk, node, &Users::new(alloc), call, 0, out)
-        }
-        b'L' => logs_in(alloc, disk, node, line, out),
+        b'k' => deletes(alloc, disk, node, line, out),
         b'e' => fetches(alloc, disk, node, line, out),
+        b'z' => refuses(alloc, node, out),
         b'p' => {
             let (most, room) = room_at(line);
             pushes(alloc, disk, node, node_at(line, 2), most, room, out)

@@ -1,5 +1,5 @@
 -- The letters by which nodes speak: who sends what to whom, and what each kind carries.
-use Rattle.std.specs.Prelude.{ℕ, Bool, List, Option}
+use Rattle.std.specs.Prelude.{ℕ, Bool, true, false, List, Option}
 use Rattle.mail_model.specs.Identity.{Id, Stamp, EpochId, Key, State}
 use Rattle.mail_model.specs.Plan.{Proof}
 
@@ -103,3 +103,14 @@ pub record Letter : Type 0 where
   pub epoch : EpochId
   pub ticket : Option Number
   pub body : Body
+
+-- letters of calls that read, and of locks
+abbrev pub is_read_body : Body → Bool
+is_read_body (Body.LoginAsk user proof) = true
+is_read_body (Body.LoginTold word) = true
+is_read_body (Body.ListAsk user) = true
+is_read_body (Body.ListTold items) = true
+is_read_body (Body.FetchAsk user id at most) = true
+is_read_body (Body.FetchTold part) = true
+is_read_body (Body.Unlock user login) = true
+is_read_body body = false

@@ -6,6 +6,7 @@ pub mod Merge
 pub mod Said
 pub mod UpdateLog
 pub mod Letters
+pub mod Locks
 pub mod Mishaps
 pub mod Laws
 pub mod Views

@@ -17,6 +17,7 @@
 //! - `Said`: what the records of a disk say of a key.
 //! - `UpdateLog`: which targets have not acknowledged a state, and the steps of the log.
 //! - `Letters`: the letters between nodes, and what each carries.
+//! - `Locks`: which login holds each user's maildrop, and how locks are taken and let go.
 //! - `Mishaps`: what may befall a call, and how often it did.
 //! - `Views`: that a copy is here or gone, as the join of its states.
 //! - `Laws`: what holds of all these.

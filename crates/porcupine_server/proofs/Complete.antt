@@ -4,7 +4,7 @@ use Rattle.std.specs.Prelude.{◌⊎◌, ⊤}
 use Rattle.std.specs.Io.KnownBytes.{Appends}
 use Rattle.std.proofs.lemmas.List.{append-nil}
 use Rattle.std.proofs.lemmas.Option.{same_Some}
-use Rattle.cluster_model.specs.WorldLaws.{opening_world}
+use Rattle.joint_world.specs.First.{first_world}
 use Rattle.accepted_tapes.specs.Follows.{FollowsAll}
 use Rattle.porcupine_server.proofs.Followed.{Followed}
 use Rattle.std.proofs.lemmas.List.Concat.{flat_map-append}
@@ -26,6 +26,7 @@ use Rattle.whole_node.specs.Starting.{first_map}
 use Rattle.cluster_world.specs.Worlds.{plan_of, disks_of, disks_tell}
 use Rattle.cluster_world.specs.declared.world.World.{World}
 use Rattle.cluster_world.proofs.Chained.{plan_stays}
+use Rattle.cluster_world.proofs.AtFirst.{first_managers}
 use Rattle.drive_tape.specs.declared.drove.Drove.{Drove}
 use Rattle.drive_tape.specs.declared.drove.Drove.TheVariants as drove
 use Rattle.drive_tape.specs.declared.drove.TapeFault.{TapeFault}
@@ -47,7 +48,7 @@ use Rattle.porcupine_server.specs.Endings.{ending_of, status_of, last_entries, F
 use Rattle.serve_word.specs.Stores.{NodeStoreFailed, StoreFailed}
 use Rattle.porcupine_server.specs.Works.{SourceAndSink, Stores, Works, NoPlan, NoStores, ServedStores, NotOpened, Ran, IsBeforeRun}
 use Rattle.porcupine_server.proofs.GoodPlan.{run_part, no_plan_fault, reads_good_plan}
-use Rattle.porcupine_server.proofs.GoodRun.{first_lines, no_end_handled, no_end_next, read_first, no_run_fault, granted}
+use Rattle.porcupine_server.proofs.GoodRun.{Managed, first_lines, no_end_handled, no_end_next, read_first, no_run_fault, granted}
 use Rattle.porcupine_server.proofs.Granted.{followed, refuses}
 use Rattle.porcupine_server.proofs.Placed.{untold_store, fell}
 use Rattle.porcupine_server.proofs.Within.{failed_within, node_ends}
@@ -99,6 +100,9 @@ module _ (tape : List ℕ) (good : IsGoodTape tape) where
     abbrev been : List Act
     been = flat_map (λ a. a) d.acts
 
+    managed : Managed tape good
+    managed = first_managers good.plan (subst (λ (p : Plan). 1 ≤ p.nodes) same begins.some)
+
     all_acts : flat_map (λ a. a) (d.acts ++ d.behind) ≡ been ++ flat_map (λ a. a) d.behind
     all_acts = flat_map-append (λ (a : List Act). a) d.acts d.behind
 
@@ -123,11 +127,11 @@ module _ (tape : List ℕ) (good : IsGoodTape tape) where
     quiet_behind midst behind none = flat_map-append (λ (a : List Act). a) d.acts behind ∙ ap (λ (l : List Act). been ++ l) none ∙ append-nil been
 
     module _ (others : List (List ℕ)) (first : good.lines ≡ (d.handled ++ d.midst) ++ others) (ample : d.stop ≡ OutOfMemory → ⊥) (none : flat_map (λ a. a) d.behind ≡ []) where
-      f : Followed on good.plan good.lines (flat_map (λ a. a) (d.acts ++ d.behind)) d.led.rest [] (opening_world good.plan.nodes (first_map good.plan)) d.awaited last
+      f : Followed on good.plan good.lines (flat_map (λ a. a) (d.acts ++ d.behind)) d.led.rest [] (first_world good.plan.nodes (first_map good.plan)) d.awaited last
       f = followed on start last begins tells good.plan same d.stop d.handled d.midst d.acts d.behind d.outcomes d.entries d.sessions d.driven d.awaited d.steps d.at_nodes d.lacking d.led good.lines others first ample
 
-      follows : FollowsAll good.plan good.lines been [] (opening_world good.plan.nodes (first_map good.plan)) f.now f.next
-      follows = subst (λ (l : List Act). FollowsAll good.plan good.lines l [] (opening_world good.plan.nodes (first_map good.plan)) f.now f.next) (quiet_behind d.midst d.behind none) f.follows
+      follows : FollowsAll good.plan good.lines been [] (first_world good.plan.nodes (first_map good.plan)) f.now f.whole.v
+      follows = subst (λ (l : List Act). FollowsAll good.plan good.lines l [] (first_world good.plan.nodes (first_map good.plan)) f.now f.whole.v) (quiet_behind d.midst d.behind none) f.follows
 
     nothing_behind : (midst : List (List ℕ)) (behind : List (List Act)) → midst ≡ [] → IsLeftOff (plan_of start) been d.stop d.driven.mid midst behind d.driven.tail d.driven.extra d.sessions → flat_map (λ a. a) behind ≡ []
     nothing_behind [] [] none off = refl
@@ -142,7 +146,7 @@ module _ (tape : List ℕ) (good : IsGoodTape tape) where
         (λ front rest is. no_end_handled tape good d.handled d.acts d.driven.outputs d.driven.mid runs front rest (sym all ∙ is)) began_with.1 in
         let quiet = nothing_behind d.midst d.behind none d.driven.off in
         let ample : d.stop ≡ OutOfMemory → ⊥ = λ is. (let clash : BehindLine ≡ OutOfMemory = sym stopped ∙ is in cc) in
-        no_run_fault tape good between left1 fault d.read d.others d.room d.handled d.acts d.driven.outputs d.driven.mid (f first.0 first.1 ample quiet).now (f first.0 first.1 ample quiet).next told d.took
+        no_run_fault tape good between left1 fault d.read d.others d.room d.handled d.acts d.driven.outputs d.driven.mid (f first.0 first.1 ample quiet).now (f first.0 first.1 ample quiet).whole.v managed told d.took
         (d.tape ∙ ap (λ (ls : List (List ℕ)). flat_map ended ls ++ d.others) all) (subst (All HasNoLf) all d.each) runs (follows first.0 first.1 ample quiet) up calm d.limit
         (subst (λ (ss : List Session). StopsAt fault good.plan been ss left1 d.others d.room) off
         (subst (λ (p : Plan). StopsAt fault p been d.sessions left1 d.others d.room) same why))
@@ -161,7 +165,7 @@ module _ (tape : List ℕ) (good : IsGoodTape tape) where
             let other : tape_order line ≡ Some End → ⊥ = λ ends. subst (λ o. FirstStep o d.driven.mid tried.step) (same_Some tried.order End (sym tried.spelled ∙ ends)) tried.first in
             let first = first_lines tape good (d.handled ++ d.midst) began_with.0 d.each
             (λ front rest e. no_end_next tape good d.handled line d.acts d.driven.outputs d.driven.mid runs other front rest (sym (ap (λ (ms : List (List ℕ)). d.handled ++ ms) here) ∙ e)) began_with.1 in
-            let grants = granted tape good between left1 d.read d.others d.handled line d.acts d.driven.outputs d.driven.mid tried.order (f first.0 first.1 ample quiet).now (f first.0 first.1 ample quiet).next told d.took
+            let grants = granted tape good between left1 d.read d.others d.handled line d.acts d.driven.outputs d.driven.mid tried.order (f first.0 first.1 ample quiet).now (f first.0 first.1 ample quiet).whole.v managed told d.took
             (d.tape ∙ ap (λ (ms : List (List ℕ)). flat_map ended (d.handled ++ ms) ++ d.others) here)
             (subst (λ (ms : List (List ℕ)). All HasNoLf (d.handled ++ ms)) here d.each) runs (follows first.0 first.1 ample quiet) up calm tried.spelled (tried.step, tried.first) in
             refuses on start last begins tells good.plan same d.stop d.handled d.midst d.acts d.behind d.outcomes d.entries d.sessions d.driven d.awaited d.steps d.at_nodes d.lacking d.led good.lines first.0 first.1 ample

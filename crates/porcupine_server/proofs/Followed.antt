@@ -17,9 +17,11 @@ use Rattle.session_model.specs.SoundMails.{IsSoundMail}
 use Rattle.session_model.specs.Acts.{Act}
 use Rattle.session_model.specs.Acts.Act.{Opens, Does, Faults, StillWaits, Leaves, Makes as MakesAct, Abandons}
 use Rattle.session_model.specs.Acts.Deed.{IsFed, Hears, IsAnswered, IsGivenUp, Falls, Closes}
-use Rattle.cluster_model.specs.World as machine
 use Rattle.cluster_model.specs.Steps as steps
-use Rattle.cluster_model.specs.Makes.{MadeStep, MakesStep}
+use Rattle.whole_world.specs.Steps as whole_steps
+use Rattle.whole_world.specs.Makes.{MadeStep}
+use Rattle.joint_world.specs.World.{World as Machine}
+use Rattle.joint_world.specs.Makes.{MakesStep}
 use Rattle.accepted_tapes.specs.Orders as asks
 use Rattle.accepted_tapes.specs.Follows.{Standing, IsOpenedAt, Begins as BeginsThere, GivesUp, Follows, FollowsAll, without_session as without}
 use Rattle.node_core.specs.Beginning.{call_seen as machine_call, IsTextEnded}
@@ -28,8 +30,8 @@ use Rattle.node_store.specs.Disks.{View}
 use Rattle.call_tickets.specs.declared.call.Call.{Call as WorldCall}
 use Rattle.call_tickets.specs.declared.call.Call.TheVariants as calls
 use Rattle.call_tickets.specs.declared.answer.Ask.TheVariants as ask
-use Rattle.cluster_world.specs.Worlds.{StandsFor}
-use Rattle.cluster_world.specs.Seen.{step_seen, outcome_seen}
+use Rattle.cluster_world.specs.Sound.{IsWhole}
+use Rattle.cluster_world.specs.Seen.{whole_outcome}
 use Rattle.cluster_world.specs.Ended.{IsEnded}
 use Rattle.cluster_world.specs.Steps.{IsStep}
 use Rattle.cluster_world.specs.Lives.{nodes_up}
@@ -44,7 +46,8 @@ use Rattle.cluster_world.specs.declared.step.Said.TheVariants as said
 use Rattle.cluster_world.specs.declared.fault.StepFault.{StepFault}
 use Rattle.cluster_world.proofs.Ended.{sound_ended}
 use Rattle.cluster_world.proofs.SeenAlike.{made_alike, told_alike}
-use Rattle.cluster_world.proofs.Mirrors.{IsOf, Led as LedOn, led}
+use Rattle.cluster_world.proofs.Leading.{LedWhole}
+use Rattle.cluster_world.proofs.Mirrors.{IsOf}
 use Rattle.cluster_world.specs.Regroups.{AllWentOn}
 use Rattle.drive_tape.specs.Led.{Begins, EndsIn, WentWell, Tells, TellsSettle, TellsMove, told_of, Led, AreLed}
 use Rattle.drive_tape.specs.Led.TellsMove.{OfSteps, OfSettle, OfMap}
@@ -52,7 +55,7 @@ use Rattle.drive_tape.proofs.Settles.{goes_went}
 use Rattle.cluster_world.specs.Settling.{AreOfSettle, MakesSettle, Goes}
 use Rattle.cluster_world.specs.declared.settling.Settle.{Settle}
 use Rattle.cluster_world.specs.declared.settling.Settle.TheVariants as settle
-use Rattle.porcupine_server.proofs.MachineOrders.{made_seen, failed_alike, Ordered, known_on, order_follows, settle_follows, map_follows}
+use Rattle.porcupine_server.proofs.MachineOrders.{made_seen, failed_alike, Ordered, known_on, led, order_follows, settle_follows, map_follows}
 
 -- a call that is awaited, as it stands in the machine
 abbrev pub standing_of : Awaited → Standing
@@ -104,8 +107,8 @@ fewer_all (made ∷ more) awaited one m = fewer (fallen_in made.step made.result
 
 -- what a run line tells of its steps
 
-pub ends_alike : (result : Result Said StepFault) (steps : List StepMade) → EndsIn result steps → asks.EndsIn (outcome_seen result) (map made_seen steps)
-ends_alike result steps (before, one, are, is) = (map made_seen before, made_seen one, ap (map made_seen) are ∙ map_last before, ap outcome_seen is)
+pub ends_alike : (result : Result Said StepFault) (steps : List StepMade) → EndsIn result steps → asks.EndsIn (whole_outcome result) (map made_seen steps)
+ends_alike result steps (before, one, are, is) = (map made_seen before, made_seen one, ap (map made_seen) are ∙ map_last before, ap whole_outcome is)
   where
     map_last : (front : List StepMade) → map made_seen (front ++ one ∷ []) ≡ map made_seen front ++ made_seen one ∷ []
     map_last [] = refl
@@ -192,8 +195,8 @@ leave_ended user (calls.Login name proof) is = absurd is
 leave_ended user (calls.Fetch name id holders from most) is = absurd is
 leave_ended user (calls.Strike name items) is = absurd is
 
-leave_seen : (user : List ℕ) (begun : WorldCall) → IsLeave user begun → machine_call begun ≡ steps.NodeCall.Leave user
-leave_seen user (calls.Leave name login manager) is = ap steps.NodeCall.Leave is
+leave_seen : (user : List ℕ) (begun : WorldCall) → IsLeave user begun → (login : Number) × (manager : ℕ) × (machine_call begun ≡ steps.NodeCall.Leave user login manager)
+leave_seen user (calls.Leave name login manager) is = (login, manager, ap (λ u. steps.NodeCall.Leave u login manager) is)
 leave_seen user (calls.Deliver deliver) is = absurd is
 leave_seen user (calls.Login name proof) is = absurd is
 leave_seen user (calls.Fetch name id holders from most) is = absurd is
@@ -208,32 +211,33 @@ module _ {D : Type 0} (on : View D) (plan : Plan) (lines : List (List ℕ)) wher
   IsPlaced outcome = Unit {0}
 
   -- where the machine is after acts, and the world before the outcomes that are left
-  pub record Followed (acts : List Act) (rest : List Outcome) (standing : List Standing) (w : machine.World) (left : List Awaited) (last : World D) : Type 0 where
+  pub record Followed (acts : List Act) (rest : List Outcome) (standing : List Standing) (w : Machine) (left : List Awaited) (last : World D) : Type 0 where
     pub now : List Standing
-    pub next : machine.World
     pub between : List Awaited
     pub mid : World D
-    pub follows : FollowsAll plan lines acts standing w now next
-    pub stands : StandsFor on mid next
+    pub whole : IsWhole on plan mid
+    pub follows : FollowsAll plan lines acts standing w now whole.v
     pub known : IsOf on plan true mid
     pub stood : HaveStood between now
     pub makes : Makes on rest between mid left last
 
   -- what the machine makes of one outcome of an act
-  record OneMade (act : Act) (standing : List Standing) (w : machine.World) (between : List Awaited) (mid : World D) : Type 0 where
+  record OneMade (act : Act) (standing : List Standing) (w : Machine) (between : List Awaited) (mid : World D) : Type 0 where
     now : List Standing
-    next : machine.World
-    follows : Follows plan lines act standing w now next
-    stands : StandsFor on mid next
+    whole : IsWhole on plan mid
+    follows : Follows plan lines act standing w now whole.v
     known : IsOf on plan true mid
     stood : HaveStood between now
 
-  module _ (standing : List Standing) (w : machine.World) (awaited between : List Awaited) (old mid : World D) (known : IsOf on plan true old) (stands : StandsFor on old w) (stood : HaveStood awaited standing) where
+  module _ (standing : List Standing) (awaited between : List Awaited) (old mid : World D) (known : IsOf on plan true old) (h : IsWhole on plan old) (stood : HaveStood awaited standing) where
+    abbrev w : Machine
+    w = h.v
+
     abbrev Leads : Result Said StepFault → Step → Type 0
-    Leads result made = LedOn on plan true result made w mid
+    Leads result made = LedWhole on plan true result made old mid h
 
     leads : (result : Result Said StepFault) (made : Step) → IsEnded made → IsStep on result made old mid → Leads result made × IsOf on plan true mid
-    leads result made ended is = (led on plan true result made old mid known (inl refl) ended is w stands, known_on on plan result made old mid known is)
+    leads result made ended is = (led on plan result made old mid known ended is h, known_on on plan result made old mid known is)
 
     began : (k node : ℕ) (one : Exchange) (asked : Call) (ticket : Number) → one.call ≡ Some asked → IsPlaced (Began k node asked ticket) → Came on (Began k node asked ticket) awaited old between mid
         → OneMade (Does k (Hears one)) standing w between mid
@@ -241,10 +245,9 @@ module _ {D : Type 0} (on : View D) (plan : Plan) (lines : List (List ℕ)) wher
         let l = leads (Ok (said.Begun ticket stirs)) (step.Begin node call) (sound_ended call asked e placed.1) is in
         record {
           now = standing ++ record { session = k; ticket = ticket } ∷ [];
-          next = l.0.next;
-          follows = subst (λ (c : Option Call). BeginsThere plan lines k c standing w (standing ++ record { session = k; ticket = ticket } ∷ []) l.0.next) (sym calls_it)
+          whole = l.0.whole;
+          follows = subst (λ (c : Option Call). BeginsThere plan lines k c standing w (standing ++ record { session = k; ticket = ticket } ∷ []) l.0.whole.v) (sym calls_it)
               (node, machine_call call, placed.0, made_alike call ∙ e, inl (ticket, l.0.made, refl));
-          stands = l.0.stands;
           known = l.1;
           stood = subst (λ (a : List Awaited). HaveStood a (standing ++ record { session = k; ticket = ticket } ∷ [])) (sym left_is) (more_stood (record { ticket = ticket; session = k; call = asked }) awaited standing stood);
         }
@@ -254,9 +257,8 @@ module _ {D : Type 0} (on : View D) (plan : Plan) (lines : List (List ℕ)) wher
         let l = leads (Ok (said.Faulted node)) (step.Begin node call) (sound_ended call asked e placed.1) is in
         record {
           now = standing;
-          next = l.0.next;
-          follows = subst (λ (c : Option Call). BeginsThere plan lines k c standing w standing l.0.next) (sym calls_it) (node, machine_call call, placed.0, made_alike call ∙ e, inr (l.0.made, refl));
-          stands = l.0.stands;
+          whole = l.0.whole;
+          follows = subst (λ (c : Option Call). BeginsThere plan lines k c standing w standing l.0.whole.v) (sym calls_it) (node, machine_call call, placed.0, made_alike call ∙ e, inr (l.0.made, refl));
           known = l.1;
           stood = λ a m. stood a (fewer (Some node) awaited a (subst (Among a) left_is m));
         }
@@ -266,9 +268,8 @@ module _ {D : Type 0} (on : View D) (plan : Plan) (lines : List (List ℕ)) wher
         let l = leads (Ok (said.Asked (ask.Done own))) (step.Ask ticket) tt is in
         record {
           now = without k standing;
-          next = l.0.next;
+          whole = l.0.whole;
           follows = (ticket, progress_seen own, given_is ∙ told_alike own, stood (record { ticket = ticket; session = k; call = asked }) waits, l.0.made, refl);
-          stands = l.0.stands;
           known = l.1;
           stood = subst (λ (a : List Awaited). HaveStood a (without k standing)) (sym left_is) (without_stood k awaited standing stood);
         }
@@ -278,18 +279,16 @@ module _ {D : Type 0} (on : View D) (plan : Plan) (lines : List (List ℕ)) wher
         let l = leads (Ok (said.Asked (ask.Pending got wanted))) (step.Ask ticket) tt is in
         record {
           now = standing;
-          next = l.0.next;
+          whole = l.0.whole;
           follows = (ticket, got, wanted, stood (record { ticket = ticket; session = k; call = asked }) among, l.0.made, refl);
-          stands = l.0.stands;
           known = l.1;
           stood = subst (λ (a : List Awaited). HaveStood a standing) (sym left_is) stood;
         }
 
     -- a call that is given up, for a session that is told so and for one that is closed
     record Ended (k : ℕ) : Type 0 where
-      next : machine.World
-      gives : GivesUp plan k standing w (without k standing) next
-      stands_there : StandsFor on mid next
+      whole : IsWhole on plan mid
+      gives : GivesUp plan k standing w (without k standing) whole.v
       known_there : IsOf on plan true mid
       stood_there : HaveStood between (without k standing)
 
@@ -297,9 +296,8 @@ module _ {D : Type 0} (on : View D) (plan : Plan) (lines : List (List ℕ)) wher
     gives_up k asked ticket among is left_is =
         let l = leads (Ok said.Done) (step.GiveUp ticket) tt is in
         record {
-          next = l.0.next;
+          whole = l.0.whole;
           gives = (ticket, stood (record { ticket = ticket; session = k; call = asked }) among, l.0.made, refl);
-          stands_there = l.0.stands;
           known_there = l.1;
           stood_there = subst (λ (a : List Awaited). HaveStood a (without k standing)) (sym left_is) (without_stood k awaited standing stood);
         }
@@ -307,33 +305,32 @@ module _ {D : Type 0} (on : View D) (plan : Plan) (lines : List (List ℕ)) wher
     given_up : (k : ℕ) (asked : Call) (ticket : Number) (reply : List (List ℕ)) → Came on (GaveUp k asked ticket) awaited old between mid → OneMade (Does k (IsGivenUp asked reply)) standing w between mid
     given_up k asked ticket reply (among, is, left_is) =
         let e = gives_up k asked ticket among is left_is in
-        record { now = without k standing; next = e.next; follows = e.gives; stands = e.stands_there; known = e.known_there; stood = e.stood_there }
+        record { now = without k standing; whole = e.whole; follows = e.gives; known = e.known_there; stood = e.stood_there }
 
     abandons : (k : ℕ) (asked : Call) (ticket : Number) → Came on (Abandoned k asked ticket) awaited old between mid → OneMade (Abandons k) standing w between mid
     abandons k asked ticket (among, is, left_is) =
         let e = gives_up k asked ticket among is left_is in
-        record { now = without k standing; next = e.next; follows = e.gives; stands = e.stands_there; known = e.known_there; stood = e.stood_there }
+        record { now = without k standing; whole = e.whole; follows = e.gives; known = e.known_there; stood = e.stood_there }
 
     leaves : (k node : ℕ) (user : List ℕ) → IsPlaced (Left k node user) → Came on (Left k node user) awaited old between mid → OneMade (Leaves k user) standing w between mid
     leaves k node user placed (call, result, leave, is, left_is) =
         let l = leads result (step.Begin node call) (leave_ended user call leave) is in
+        let seen = leave_seen user call leave in
         record {
           now = standing;
-          next = l.0.next;
-          follows = (node, outcome_seen result, placed, subst (λ c. MakesStep plan true w (steps.Step.Begin node c) (outcome_seen result) l.0.next) (leave_seen user call leave) l.0.made, refl);
-          stands = l.0.stands;
+          whole = l.0.whole;
+          follows = (node, seen.0, seen.1, whole_outcome result, placed, subst (λ c. MakesStep plan true w (whole_steps.Step.OfMessages (steps.Step.Begin node c)) (whole_outcome result) l.0.whole.v) seen.2 l.0.made, refl);
           known = l.1;
           stood = λ a m. stood a (fewer (fallen_in (step.Begin node call) result) awaited a (subst (Among a) left_is m));
         }
 
     moves : (asked : ClusterOrder) (made : List StepMade) (sum : BookSum) (up : List ℕ) (event : ClusterEvent) → Tells asked made sum event → Came on (Moved asked made sum up) awaited old between mid → OneMade (MakesAct asked event) standing w between mid
     moves asked made sum up event tells (makes, left_is, sum_is, up_is) =
-        let o = order_follows on plan asked made old mid known w stands makes in
+        let o = order_follows on plan asked made old mid known h makes in
         record {
           now = standing;
-          next = o.next;
+          whole = o.whole;
           follows = (map made_seen made, o.makes, went_so asked made sum event tells, refl);
-          stands = o.stands;
           known = o.known;
           stood = λ a m. stood a (fewer_all made awaited a (subst (Among a) left_is m));
         }
@@ -341,12 +338,11 @@ module _ {D : Type 0} (on : View D) (plan : Plan) (lines : List (List ℕ)) wher
     -- a settle
     settles : (result : Result Settle StepFault) (made : List StepMade) (event : ClusterEvent) → TellsSettle result event → Came on (Settling result made) awaited old between mid → OneMade (MakesAct ClusterOrder.Settle event) standing w between mid
     settles result made event tells (makes, are, left_is) =
-        let o = settle_follows on plan made old mid known w stands (subst AreOfSettle are makes.of) (subst (λ (l : List StepMade). MakesSteps on l old mid) are makes.made) in
+        let o = settle_follows on plan made old mid known h (subst AreOfSettle are makes.of) (subst (λ (l : List StepMade). MakesSteps on l old mid) are makes.made) in
         record {
           now = standing;
-          next = o.next;
+          whole = o.whole;
           follows = (map made_seen made, o.makes, subst (λ (l : List StepMade). asks.WentSo event (map made_seen l)) are (went result makes tells), refl);
-          stands = o.stands;
           known = o.known;
           stood = λ a m. stood a (fewer_all made awaited a (subst (Among a) left_is m));
         }
@@ -363,12 +359,11 @@ module _ {D : Type 0} (on : View D) (plan : Plan) (lines : List (List ℕ)) wher
     -- a map
     maps : (user : List ℕ) (told : Option (ℕ × ℕ)) (event : ClusterEvent) → event ≡ HasMapped user (map_seen told) → Came on (Mapped user told) awaited old between mid → OneMade (MakesAct (ClusterOrder.Maps user) event) standing w between mid
     maps user told event is (told_is, left_is, same) =
-        let o = map_follows on plan user old mid known w stands same in
+        let o = map_follows on plan user old mid known h same in
         record {
           now = standing;
-          next = o.next;
+          whole = o.whole;
           follows = ([], o.makes, subst (λ (e : ClusterEvent). asks.WentSo e []) (sym is) tt, refl);
-          stands = o.stands;
           known = o.known;
           stood = λ a m. stood a (subst (Among a) left_is m);
         }
@@ -382,37 +377,35 @@ module _ {D : Type 0} (on : View D) (plan : Plan) (lines : List (List ℕ)) wher
         subst (λ (o : ClusterOrder). OneMade (MakesAct o event) standing w between mid) (sym maps_it) (maps user told event tells (subst (λ (o : Outcome). Came on o awaited old between mid) is came))
 
   -- one act
-  one_act : (act : Act) (planned : Plan) (been : List Act) (before own rest : List Outcome) → Led planned been before act own → (standing : List Standing) (w : machine.World) (awaited left : List Awaited) (old last : World D)
-      → IsOf on plan true old → StandsFor on old w → HaveStood awaited standing → ((outcome : Outcome) → Among outcome own → IsPlaced outcome)
-      → Makes on (own ++ rest) awaited old left last → Followed (act ∷ []) rest standing w left last
-  one_act act planned been before own rest is standing w awaited left old last known stands stood placed makes = by act is
+  one_act : (act : Act) (planned : Plan) (been : List Act) (before own rest : List Outcome) → Led planned been before act own → (standing : List Standing) (awaited left : List Awaited) (old last : World D)
+      → IsOf on plan true old → (h : IsWhole on plan old) → HaveStood awaited standing → ((outcome : Outcome) → Among outcome own → IsPlaced outcome)
+      → Makes on (own ++ rest) awaited old left last → Followed (act ∷ []) rest standing h.v left last
+  one_act act planned been before own rest is standing awaited left old last known h stood placed makes = by act is
     where
       -- nothing came of it
-      idle : (a : Act) → Follows plan lines a standing w standing w → own ≡ [] → Followed (a ∷ []) rest standing w left last
+      idle : (a : Act) → Follows plan lines a standing h.v standing h.v → own ≡ [] → Followed (a ∷ []) rest standing h.v left last
       idle a follows none = record {
         now = standing;
-        next = w;
         between = awaited;
         mid = old;
-        follows = (standing, w, follows, (refl, refl));
-        stands = stands;
+        whole = h;
+        follows = (standing, h.v, follows, (refl, refl));
         known = known;
         stood = stood;
         makes = subst (λ (l : List Outcome). Makes on (l ++ rest) awaited old left last) none makes;
       }
 
       -- one step did
-      once : (a : Act) (outcome : Outcome) → own ≡ outcome ∷ [] → ((between : List Awaited) (mid : World D) → Came on outcome awaited old between mid → OneMade a standing w between mid) → Followed (a ∷ []) rest standing w left last
+      once : (a : Act) (outcome : Outcome) → own ≡ outcome ∷ [] → ((between : List Awaited) (mid : World D) → Came on outcome awaited old between mid → OneMade a standing h.v between mid) → Followed (a ∷ []) rest standing h.v left last
       once a outcome one does =
           let (between, mid, came, more) = subst (λ (l : List Outcome). Makes on (l ++ rest) awaited old left last) one makes in
           let m = does between mid came in
           record {
             now = m.now;
-            next = m.next;
             between = between;
             mid = mid;
-            follows = (m.now, m.next, m.follows, (refl, refl));
-            stands = m.stands;
+            whole = m.whole;
+            follows = (m.now, m.whole.v, m.follows, (refl, refl));
             known = m.known;
             stood = m.stood;
             makes = more;
@@ -421,59 +414,57 @@ module _ {D : Type 0} (on : View D) (plan : Plan) (lines : List (List ℕ)) wher
       the_one : (outcome : Outcome) → own ≡ outcome ∷ [] → IsPlaced outcome
       the_one outcome one = placed outcome (subst (Among outcome) (sym one) (inl refl))
 
-      hears : (k : ℕ) (one : Exchange) (c : Option Call) → one.call ≡ c → Begins k c own → Followed (Does k (Hears one) ∷ []) rest standing w left last
-      hears k one None none own_is = idle (Does k (Hears one)) (subst (λ (c : Option Call). BeginsThere plan lines k c standing w standing w) (sym none) (refl, refl)) own_is
+      hears : (k : ℕ) (one : Exchange) (c : Option Call) → one.call ≡ c → Begins k c own → Followed (Does k (Hears one) ∷ []) rest standing h.v left last
+      hears k one None none own_is = idle (Does k (Hears one)) (subst (λ (c : Option Call). BeginsThere plan lines k c standing h.v standing h.v) (sym none) (refl, refl)) own_is
       hears k one (Some asked) is_call (node, inl (ticket, own_is)) =
-          once (Does k (Hears one)) (Began k node asked ticket) own_is (λ between mid came. began standing w awaited between old mid known stands stood k node one asked ticket is_call (the_one (Began k node asked ticket) own_is) came)
+          once (Does k (Hears one)) (Began k node asked ticket) own_is (λ between mid came. began standing awaited between old mid known h stood k node one asked ticket is_call (the_one (Began k node asked ticket) own_is) came)
       hears k one (Some asked) is_call (node, inr own_is) =
-          once (Does k (Hears one)) (Fell k node asked) own_is (λ between mid came. fell standing w awaited between old mid known stands stood k node one asked is_call (the_one (Fell k node asked) own_is) came)
+          once (Does k (Hears one)) (Fell k node asked) own_is (λ between mid came. fell standing awaited between old mid known h stood k node one asked is_call (the_one (Fell k node asked) own_is) came)
 
-      by : (a : Act) → Led planned been before a own → Followed (a ∷ []) rest standing w left last
+      by : (a : Act) → Led planned been before a own → Followed (a ∷ []) rest standing h.v left last
       by (Opens protocol node greeting) l = idle (Opens protocol node greeting) (refl, refl) l
       by (Does k (Hears one)) l = hears k one one.call refl l
-      by (Does k (IsAnswered call answer reply)) l = once (Does k (IsAnswered call answer reply)) (Answers k call l.0 answer) l.1 (λ between mid came. answers standing w awaited between old mid known stands stood k call l.0 answer reply came)
-      by (Does k (IsGivenUp call reply)) l = once (Does k (IsGivenUp call reply)) (GaveUp k call l.0) l.1 (λ between mid came. given_up standing w awaited between old mid known stands stood k call l.0 reply came)
+      by (Does k (IsAnswered call answer reply)) l = once (Does k (IsAnswered call answer reply)) (Answers k call l.0 answer) l.1 (λ between mid came. answers standing awaited between old mid known h stood k call l.0 answer reply came)
+      by (Does k (IsGivenUp call reply)) l = once (Does k (IsGivenUp call reply)) (GaveUp k call l.0) l.1 (λ between mid came. given_up standing awaited between old mid known h stood k call l.0 reply came)
       by (Does k (IsFed octets)) l = idle (Does k (IsFed octets)) (refl, refl) l
       by (Does k Falls) l = idle (Does k Falls) (refl, refl) l
       by (Does k Closes) l = idle (Does k Closes) (refl, refl) l
       by (Faults node) l = idle (Faults node) (refl, refl) l.0
-      by (StillWaits k) l = once (StillWaits k) (StillPending k l.0) l.1 (λ between mid came. waits standing w awaited between old mid known stands stood k l.0 came)
-      by (Leaves k user) l = once (Leaves k user) (Left k l.0 user) l.1 (λ between mid came. leaves standing w awaited between old mid known stands stood k l.0 user (the_one (Left k l.0 user) l.1) came)
-      by (MakesAct asked event) l = once (MakesAct asked event) l.0 l.1 (λ between mid came. tells_of standing w awaited between old mid known stands stood (nodes_up (life_after been) planned.nodes) asked event l.0 l.2 came)
-      by (Abandons k) l = once (Abandons k) (Abandoned k l.0 l.1) l.2 (λ between mid came. abandons standing w awaited between old mid known stands stood k l.0 l.1 came)
+      by (StillWaits k) l = once (StillWaits k) (StillPending k l.0) l.1 (λ between mid came. waits standing awaited between old mid known h stood k l.0 came)
+      by (Leaves k user) l = once (Leaves k user) (Left k l.0 user) l.1 (λ between mid came. leaves standing awaited between old mid known h stood k l.0 user (the_one (Left k l.0 user) l.1) came)
+      by (MakesAct asked event) l = once (MakesAct asked event) l.0 l.1 (λ between mid came. tells_of standing awaited between old mid known h stood (nodes_up (life_after been) planned.nodes) asked event l.0 l.2 came)
+      by (Abandons k) l = once (Abandons k) (Abandoned k l.0 l.1) l.2 (λ between mid came. abandons standing awaited between old mid known h stood k l.0 l.1 came)
 
   -- acts, one after another
-  pub all_acts : (acts : List Act) (planned : Plan) (been : List Act) (before own rest : List Outcome) → AreLed planned been before acts own → (standing : List Standing) (w : machine.World) (awaited left : List Awaited) (old last : World D)
-      → IsOf on plan true old → StandsFor on old w → HaveStood awaited standing → ((outcome : Outcome) → Among outcome own → IsPlaced outcome)
-      → Makes on (own ++ rest) awaited old left last → Followed acts rest standing w left last
-  all_acts [] planned been before own rest none standing w awaited left old last known stands stood placed makes = record {
+  pub all_acts : (acts : List Act) (planned : Plan) (been : List Act) (before own rest : List Outcome) → AreLed planned been before acts own → (standing : List Standing) (awaited left : List Awaited) (old last : World D)
+      → IsOf on plan true old → (h : IsWhole on plan old) → HaveStood awaited standing → ((outcome : Outcome) → Among outcome own → IsPlaced outcome)
+      → Makes on (own ++ rest) awaited old left last → Followed acts rest standing h.v left last
+  all_acts [] planned been before own rest none standing awaited left old last known h stood placed makes = record {
     now = standing;
-    next = w;
     between = awaited;
     mid = old;
+    whole = h;
     follows = (refl, refl);
-    stands = stands;
     known = known;
     stood = stood;
     makes = subst (λ (l : List Outcome). Makes on (l ++ rest) awaited old left last) none makes;
   }
-  all_acts (act ∷ acts) planned been before own rest (mine, others, parts, one, more) standing w awaited left old last known stands stood placed makes =
-      let f = one_act act planned been before mine (others ++ rest) one standing w awaited left old last known stands stood
+  all_acts (act ∷ acts) planned been before own rest (mine, others, parts, one, more) standing awaited left old last known h stood placed makes =
+      let f = one_act act planned been before mine (others ++ rest) one standing awaited left old last known h stood
       (λ outcome m. placed outcome (subst (Among outcome) (sym parts) (among_front outcome mine others m)))
       (subst (λ (l : List Outcome). Makes on l awaited old left last) (append_assoc mine others rest) (subst (λ (l : List Outcome). Makes on (l ++ rest) awaited old left last) parts makes)) in
-      let g = all_acts acts planned (been ++ act ∷ []) (before ++ mine) others rest more f.now f.next f.between left f.mid last f.known f.stands f.stood
+      let g = all_acts acts planned (been ++ act ∷ []) (before ++ mine) others rest more f.now f.between left f.mid last f.known f.whole f.stood
       (λ outcome m. placed outcome (subst (Among outcome) (sym parts) (among_behind outcome mine others m))) f.makes in
       record {
         now = g.now;
-        next = g.next;
         between = g.between;
         mid = g.mid;
-        follows = (f.now, f.next, follows_one act standing w f.now f.next f.follows, g.follows);
-        stands = g.stands;
+        whole = g.whole;
+        follows = (f.now, f.whole.v, follows_one act standing h.v f.now f.whole.v f.follows, g.follows);
         known = g.known;
         stood = g.stood;
         makes = g.makes;
       }
     where
-      follows_one : (a : Act) (standing : List Standing) (w : machine.World) (now : List Standing) (next : machine.World) → FollowsAll plan lines (a ∷ []) standing w now next → Follows plan lines a standing w now next
-      follows_one a standing w now next (between, mid, one, (same, is)) = subst (λ (s : List Standing). Follows plan lines a standing w s next) (sym same) (subst (λ (v : machine.World). Follows plan lines a standing w between v) (sym is) one)
+      follows_one : (a : Act) (standing : List Standing) (w : Machine) (now : List Standing) (next : Machine) → FollowsAll plan lines (a ∷ []) standing w now next → Follows plan lines a standing w now next
+      follows_one a standing w now next (between, mid, one, (same, is)) = subst (λ (s : List Standing). Follows plan lines a standing w s next) (sym same) (subst (λ (v : Machine). Follows plan lines a standing w between v) (sym is) one)

@@ -21,8 +21,10 @@ use Rattle.drive_tape.specs.declared.drove.TapeFault.{TapeFault}
 use Rattle.drive_tape.specs.declared.drove.TapeFault.TheVariants.{BadLine, TapeTooLong}
 use Rattle.drive_tape.specs.Faults.{tape_fault_seen}
 use Rattle.drive_tape.specs.Drive.{IsOrder, IsNoOrder, StopsAt}
-use Rattle.cluster_model.specs.World.{World}
-use Rattle.cluster_model.specs.WorldLaws.{opening_world}
+use Rattle.cluster_model.specs.Starts.{first_membership}
+use Rattle.maps_model.specs.Words.{ManagersAreMembers}
+use Rattle.joint_world.specs.First.{first_world}
+use Rattle.joint_world.specs.World.{World}
 use Rattle.whole_node.specs.Starting.{first_map}
 use Rattle.accepted_tapes.specs.Follows.{Standing, FollowsAll}
 use Rattle.accepted_tapes.specs.Accepted.{NobodyWaits, MayBeDenied, Grants}
@@ -88,9 +90,13 @@ module _ (tape : List ℕ) (good : IsGoodTape tape) where
     length-append next (10 ∷ []),
   )
 
+  -- members alone manage users as the cluster opens
+  abbrev pub Managed : Type 0
+  Managed = ManagersAreMembers (first_membership good.plan.nodes (first_map good.plan))
+
   -- what the machine makes of the acts of these lines
   abbrev Follow : List (List Act) → List Standing → World → Type 0
-  Follow acts calls w = FollowsAll good.plan good.lines (flat_map (λ a. a) acts) [] (opening_world good.plan.nodes (first_map good.plan)) calls w
+  Follow acts calls w = FollowsAll good.plan good.lines (flat_map (λ a. a) acts) [] (first_world good.plan.nodes (first_map good.plan)) calls w
 
   -- Lines that were read, with no `end` among them, are the first of the run lines.
   pub first_lines : (lines : List (List ℕ)) (more : List ℕ) → All HasNoLf lines → ((front : List (List ℕ)) (rest : List (List ℕ)) → lines ≡ front ++ good.last ∷ rest → ⊥)
@@ -124,11 +130,11 @@ module _ (tape : List ℕ) (good : IsGoodTape tape) where
       let later = consumed (run_part tape good) left1 read (subst (λ (l : Option (List ℕ)). Consumes l left1 read) told took) in
       (others ++ later.0, later.2 ∙ ap (λ (l : List ℕ). l ++ later.0) cut ∙ append_assoc (flat_map ended lines) others later.0)
 
-  run_next : (lines : List (List ℕ)) (acts : List (List Act)) (outputs : List (List (List Entry))) (sessions : List Session) (calls : List Standing) (w : World) (more : List ℕ) → All HasNoLf lines
+  run_next : (lines : List (List ℕ)) (acts : List (List Act)) (outputs : List (List (List Entry))) (sessions : List Session) (calls : List Standing) (w : World) (managed : Managed) (more : List ℕ) → All HasNoLf lines
       → AreHandled good.plan [] [] lines acts outputs sessions → Follow acts calls w → failed_in (flat_map (λ a. a) acts) ≡ []
       → (good.plan.nodes ≡ 1 → NobodyWaits (flat_map (λ a. a) acts))
       → run_part tape good ≡ flat_map ended lines ++ more → RunNext lines (flat_map (λ a. a) acts) sessions calls w more
-  run_next lines acts outputs sessions calls w more each runs follows up alone is = ⊎_elim
+  run_next lines acts outputs sessions calls w managed more each runs follows up alone is = ⊎_elim
       (λ (ahead : Ahead all_lines lines good.behind more). ⊎_elim
       (λ (here : (good.lines ≡ lines) × (good.last ≡ ahead.next) × (ahead.others ≡ [])). record {
         next = ahead.next;
@@ -141,7 +147,7 @@ module _ (tape : List ℕ) (good : IsGoodTape tape) where
         short = run_short lines ahead.next ahead.others ahead.split;
       })
       (λ (before : (others : List (List ℕ)) × (good.lines ≡ lines ++ ahead.next ∷ others)).
-      let accepted = good.accepted (first_map good.plan) lines ahead.next before.0 acts outputs sessions calls w before.1 runs follows up alone in
+      let accepted = good.accepted (first_map good.plan) lines ahead.next before.0 acts outputs sessions calls w managed before.1 runs follows up alone in
       record {
         next = ahead.next;
         rest = flat_map ended ahead.others ++ good.behind;
@@ -160,10 +166,10 @@ module _ (tape : List ℕ) (good : IsGoodTape tape) where
 
   -- the run lines of the tape have no fault
   pub no_run_fault : (between left1 : Option (List ℕ)) (fault : TapeFault) (read others : List ℕ) (room : ℕ) (lines : List (List ℕ)) (acts : List (List Act)) (outputs : List (List (List Entry))) (sessions : List Session)
-      → (calls : List Standing) (w : World) → between ≡ Some (run_part tape good) → Consumes between left1 read → read ≡ flat_map ended lines ++ others → All HasNoLf lines
+      → (calls : List Standing) (w : World) → Managed → between ≡ Some (run_part tape good) → Consumes between left1 read → read ≡ flat_map ended lines ++ others → All HasNoLf lines
       → AreHandled good.plan [] [] lines acts outputs sessions → Follow acts calls w → failed_in (flat_map (λ a. a) acts) ≡ []
       → (good.plan.nodes ≡ 1 → NobodyWaits (flat_map (λ a. a) acts)) → length read + room ≡ 2 ^ 40 → StopsAt fault good.plan (flat_map (λ a. a) acts) sessions left1 others room → ⊥
-  no_run_fault between left1 fault read others room lines acts outputs sessions calls w told took cut each runs follows up alone limit why = ⊎_elim
+  no_run_fault between left1 fault read others room lines acts outputs sessions calls w managed told took cut each runs follows up alone limit why = ⊎_elim
       (λ (end : (fault ≡ BadLine) × HasNoLf others × IsAtEnd left1). no_line others n.next n.rest end.1 (ap (λ (l : List ℕ). others ++ l) (sym (at_end left1 later.0 later.1 end.2)) ∙ n.begins.whole))
       (λ (a : ((fault ≡ BadLine) × HasNoLf others × (65535 < length others)) ⊎ ((fault ≡ BadLine) × IsNoOrder others) ⊎ ((fault ≡ TapeTooLong) × HasNoLf others × (room ≡ 0))
       ⊎ ((order : Order) × IsOrder others order × (refusal good.plan (flat_map (λ a. a) acts) sessions order ≡ Some (tape_fault_seen fault)))). ⊎_elim
@@ -181,7 +187,7 @@ module _ (tape : List ℕ) (good : IsGoodTape tape) where
       later = consumed (run_part tape good) left1 read (subst (λ (l : Option (List ℕ)). Consumes l left1 read) told took)
 
       n : RunNext lines (flat_map (λ a. a) acts) sessions calls w (others ++ later.0)
-      n = run_next lines acts outputs sessions calls w (others ++ later.0) each runs follows up alone (later.2 ∙ ap (λ (l : List ℕ). l ++ later.0) cut ∙ append_assoc (flat_map ended lines) others later.0)
+      n = run_next lines acts outputs sessions calls w managed (others ++ later.0) each runs follows up alone (later.2 ∙ ap (λ (l : List ℕ). l ++ later.0) cut ∙ append_assoc (flat_map ended lines) others later.0)
 
       next_is : (line : List ℕ) → others ≡ ended line → HasNoLf line → line ≡ n.next
       next_is line whole one = (same_line (others ++ later.0) line ([] ++ later.0) n.next n.rest (begins_more others line [] later.0 (record { whole = whole; one = one })) n.begins).0
@@ -197,10 +203,10 @@ module _ (tape : List ℕ) (good : IsGoodTape tape) where
 
   -- and the machine grants the next
   pub granted : (between left1 : Option (List ℕ)) (read others : List ℕ) (lines : List (List ℕ)) (line : List ℕ) (acts : List (List Act)) (outputs : List (List (List Entry))) (sessions : List Session) (order : Order)
-      → (calls : List Standing) (w : World) → between ≡ Some (run_part tape good) → Consumes between left1 read → read ≡ flat_map ended (lines ++ line ∷ []) ++ others → All HasNoLf (lines ++ line ∷ [])
+      → (calls : List Standing) (w : World) → Managed → between ≡ Some (run_part tape good) → Consumes between left1 read → read ≡ flat_map ended (lines ++ line ∷ []) ++ others → All HasNoLf (lines ++ line ∷ [])
       → AreHandled good.plan [] [] lines acts outputs sessions → Follow acts calls w → failed_in (flat_map (λ a. a) acts) ≡ [] → (good.plan.nodes ≡ 1 → NobodyWaits (flat_map (λ a. a) acts))
       → tape_order line ≡ Some order → MayBeDenied order sessions → Grants good.plan order calls w
-  granted between left1 read others lines line acts outputs sessions order calls w told took cut each runs follows up alone spelled denied =
+  granted between left1 read others lines line acts outputs sessions order calls w managed told took cut each runs follows up alone spelled denied =
       subst (λ (o : Order). Grants good.plan o calls w) (sym same) (n.grants (subst (λ (o : Order). MayBeDenied o sessions) same denied))
     where
       later : (later : List ℕ) × (left1 ≡ Some later) × (run_part tape good ≡ read ++ later)
@@ -211,7 +217,7 @@ module _ (tape : List ℕ) (good : IsGoodTape tape) where
           ∙ append_assoc (flat_map ended lines) (ended line ++ others) later.0
 
       n : RunNext lines (flat_map (λ a. a) acts) sessions calls w ((ended line ++ others) ++ later.0)
-      n = run_next lines acts outputs sessions calls w ((ended line ++ others) ++ later.0) (front_all HasNoLf lines (line ∷ []) each) runs follows up alone (later.2 ∙ cut_more)
+      n = run_next lines acts outputs sessions calls w managed ((ended line ++ others) ++ later.0) (front_all HasNoLf lines (line ∷ []) each) runs follows up alone (later.2 ∙ cut_more)
 
       begins : BeginsWith ((ended line ++ others) ++ later.0) line (others ++ later.0)
       begins = record {

@@ -21,18 +21,21 @@ use Rattle.session_model.specs.Turns.{IsAtNode}
 use Rattle.session_model.specs.Run.{Made, Stop, IsDriven, FirstStep}
 use Rattle.session_model.specs.Run.Stop.{OutOfMemory, Denied}
 use Rattle.session_model.proofs.InOrder.{kind_there}
-use Rattle.cluster_model.specs.World as machine
-use Rattle.cluster_model.specs.WorldLaws.{opening_world}
 use Rattle.cluster_model.specs.Steps as steps
-use Rattle.cluster_model.specs.Makes.{MadeStep, MakesStep}
+use Rattle.whole_world.specs.Steps as whole_steps
+use Rattle.whole_world.specs.Makes.{MadeStep}
+use Rattle.joint_world.specs.First.{first_world}
+use Rattle.joint_world.specs.World.{World as Machine}
+use Rattle.joint_world.specs.Makes.{MakesStep}
 use Rattle.accepted_tapes.specs.Orders as asks
 use Rattle.accepted_tapes.specs.Follows.{Standing, IsOpenedAt, FollowsAll}
 use Rattle.accepted_tapes.specs.Accepted.{Grants}
 use Rattle.node_store.specs.Disks.{View}
 use Rattle.whole_node.specs.Starting.{first_map}
 use Rattle.cluster_world.specs.Opens.{IsAtBeginning}
-use Rattle.cluster_world.specs.Worlds.{plan_of, disks_tell, StandsFor}
-use Rattle.cluster_world.specs.Seen.{outcome_seen}
+use Rattle.cluster_world.specs.Sound.{IsWhole}
+use Rattle.cluster_world.specs.Worlds.{plan_of, disks_tell}
+use Rattle.cluster_world.specs.Seen.{whole_outcome}
 use Rattle.cluster_world.specs.Owing.{IsOfSession, AreOfSessions}
 use Rattle.cluster_world.specs.Made.{StepMade, MakesSteps}
 use Rattle.cluster_world.specs.Settling.{AreOfSettle, IsRefusedBy, SweepsInVain}
@@ -43,7 +46,8 @@ use Rattle.cluster_world.specs.declared.step.Step.TheVariants as step
 use Rattle.cluster_world.specs.declared.step.Said.{Said}
 use Rattle.cluster_world.specs.declared.fault.StepFault.{StepFault}
 use Rattle.cluster_world.specs.declared.fault.StepFault.TheVariants as fault
-use Rattle.cluster_world.proofs.Mirrors.{IsOf, led}
+use Rattle.cluster_world.proofs.Leading.{opens_whole}
+use Rattle.cluster_world.proofs.Mirrors.{IsOf}
 use Rattle.drive_tape.specs.declared.drove.TapeFault.{TapeFault}
 use Rattle.drive_tape.specs.declared.drove.Stop.TheVariants as why
 use Rattle.drive_tape.specs.Denials.{stop_by}
@@ -53,7 +57,7 @@ use Rattle.drive_tape.specs.Drive.{IsDenied, EndsDenied}
 use Rattle.drive_tape.specs.Points.{IsAtOwnNode, AreAtOwnNodes}
 use Rattle.drive_tape.proofs.Kept.{of_sessions}
 use Rattle.drive_tape.proofs.OpenedKinds.{driven_kinds}
-use Rattle.porcupine_server.proofs.MachineOrders.{made_seen, order_follows, settle_follows}
+use Rattle.porcupine_server.proofs.MachineOrders.{made_seen, led, order_follows, settle_follows}
 use Rattle.porcupine_server.proofs.Followed.{IsPlaced, Followed, ends_alike, all_acts}
 
 own_among : (sessions : List Session) (outcomes : List Outcome) (outcome : Outcome) → AreAtOwnNodes sessions outcomes → Among outcome outcomes → IsAtOwnNode sessions outcome
@@ -79,20 +83,20 @@ last_same (a ∷ xs) [] x y e = absurd (omega (arith, ap length e, length-append
 last_same (a ∷ xs) (b ∷ ys) x y e = last_same xs ys x y (let same : xs ++ x ∷ [] ≡ ys ++ y ∷ [] = cc in same)
 
 -- a fault of the tape is a refusal of the machine
-is_refusal : (cause : StepFault) (fault : TapeFault) → stop_by cause ≡ why.Bad fault → (f : steps.StepFault) × (outcome_seen (Err cause) ≡ steps.StepOutcome.Refused f)
-is_refusal fault.NoSuchNode f is = (steps.StepFault.NoSuchNode, refl)
-is_refusal fault.NodeLost f is = (steps.StepFault.NodeLost, refl)
-is_refusal fault.NodeDown f is = (steps.StepFault.NodeDown, refl)
-is_refusal fault.NodeUp f is = (steps.StepFault.NodeIsUp, refl)
-is_refusal fault.NoSuchLetter f is = (steps.StepFault.NoSuchLetter, refl)
-is_refusal fault.NoSuchTicket f is = (steps.StepFault.NoSuchTicket, refl)
-is_refusal fault.NotAGroup f is = (steps.StepFault.NotAGroup, refl)
-is_refusal fault.Worn f is = (steps.StepFault.Worn, refl)
-is_refusal fault.NoRoom f is = (steps.StepFault.NoRoom, refl)
+is_refusal : (cause : StepFault) (fault : TapeFault) → stop_by cause ≡ why.Bad fault → (f : whole_steps.StepFault) × (whole_outcome (Err cause) ≡ whole_steps.StepOutcome.Refused f)
+is_refusal fault.NoSuchNode f is = (whole_steps.StepFault.Fault steps.StepFault.NoSuchNode, refl)
+is_refusal fault.NodeLost f is = (whole_steps.StepFault.Fault steps.StepFault.NodeLost, refl)
+is_refusal fault.NodeDown f is = (whole_steps.StepFault.Fault steps.StepFault.NodeDown, refl)
+is_refusal fault.NodeUp f is = (whole_steps.StepFault.Fault steps.StepFault.NodeIsUp, refl)
+is_refusal fault.NoSuchLetter f is = (whole_steps.StepFault.Fault steps.StepFault.NoSuchLetter, refl)
+is_refusal fault.NoSuchTicket f is = (whole_steps.StepFault.Fault steps.StepFault.NoSuchTicket, refl)
+is_refusal fault.NotAGroup f is = (whole_steps.StepFault.NotAGroup, refl)
+is_refusal fault.Worn f is = (whole_steps.StepFault.Fault steps.StepFault.Worn, refl)
+is_refusal fault.NoRoom f is = (whole_steps.StepFault.Fault steps.StepFault.NoRoom, refl)
 is_refusal (fault.NoMemory down) f is = absurd (let clash : why.NoMemory ≡ why.Bad f = is in cc)
 
 -- a line that was denied here is denied there
-denied_alike : (asked : ClusterOrder) (cause : StepFault) (f : steps.StepFault) → outcome_seen (Err cause) ≡ steps.StepOutcome.Refused f → (made : List StepMade) → AreDenied asked cause made → asks.AreDenied asked f (map made_seen made)
+denied_alike : (asked : ClusterOrder) (cause : StepFault) (f : whole_steps.StepFault) → whole_outcome (Err cause) ≡ whole_steps.StepOutcome.Refused f → (made : List StepMade) → AreDenied asked cause made → asks.AreDenied asked f (map made_seen made)
 denied_alike (order.Regroup node) cause f is made denied = ⊎_elim
     (λ ends. inl (subst (λ out. asks.EndsIn out (map made_seen made)) is (ends_alike (Err cause) made ends)))
     (λ none. inr (ap (map made_seen) none.0)) denied
@@ -139,20 +143,24 @@ module _ {D : Type 0} (on : View D) (start last : World D) (begins : IsAtBeginni
   done_are : leads.done ≡ flat_map (λ a. a) (acts ++ behind)
   done_are = sym (append-nil leads.done) ∙ ap (λ l. leads.done ++ l) (sym (none_left leads.last leads.rest stop lacking driven.extra leads.ends ample)) ∙ sym leads.acts_are
 
-  pub followed : Followed on plan lines (flat_map (λ a. a) (acts ++ behind)) leads.rest [] (opening_world plan.nodes (first_map plan)) awaited last
-  followed = subst (λ l. Followed on plan lines l leads.rest [] (opening_world plan.nodes (first_map plan)) awaited last) done_are
-      (all_acts on plan lines leads.done (plan_of start) [] [] leads.own leads.rest leads.led [] (opening_world plan.nodes (first_map plan)) [] awaited start last (record { plan_is = same; told_is = told })
-      (subst (λ (p : Plan). StandsFor on start (opening_world p.nodes (first_map p))) same begins.stands) (λ one m. absurd m)
+  -- the world as it opened
+  as_opened : (h : IsWhole on plan start) × (h.v ≡ first_world plan.nodes (first_map plan))
+  as_opened = subst (λ (p : Plan). (h : IsWhole on p start) × (h.v ≡ first_world p.nodes (first_map p))) same (let o = opens_whole on (plan_of start) start begins in (o.0, o.1))
+
+  pub followed : Followed on plan lines (flat_map (λ a. a) (acts ++ behind)) leads.rest [] (first_world plan.nodes (first_map plan)) awaited last
+  followed = subst (λ l. Followed on plan lines l leads.rest [] (first_world plan.nodes (first_map plan)) awaited last) done_are
+      (subst (λ (w : Machine). Followed on plan lines leads.done leads.rest [] w awaited last) as_opened.1
+      (all_acts on plan lines leads.done (plan_of start) [] [] leads.own leads.rest leads.led [] [] awaited start last (record { plan_is = same; told_is = told }) as_opened.0 (λ one m. absurd m)
       (λ outcome m. placed outcome (subst (Among outcome) (sym leads.outcomes_are) (among_front outcome leads.own leads.rest m)))
-      (subst (λ l. Makes on l [] start awaited last) leads.outcomes_are makes))
+      (subst (λ l. Makes on l [] start awaited last) leads.outcomes_are makes)))
 
   -- the steps that the order of a line asks for are denied there
-  denied_there : (asked : ClusterOrder) (o : Order) (made : Made) → Made.Moves asked ≡ made → FirstStep o sessions made → Grants plan o followed.now followed.next → (ms : List MadeStep) (f : steps.StepFault) (next : machine.World)
-      → asks.MakesOrder plan asked ms followed.next next → asks.AreDenied asked f ms → ⊥
+  denied_there : (asked : ClusterOrder) (o : Order) (made : Made) → Made.Moves asked ≡ made → FirstStep o sessions made → Grants plan o followed.now followed.whole.v → (ms : List MadeStep) (f : whole_steps.StepFault) (next : Machine)
+      → asks.MakesOrder plan asked ms followed.whole.v next → asks.AreDenied asked f ms → ⊥
   denied_there asked (tape.Moves other) made is_made (may, is_move) grants ms f next makes_it ends =
       let e : Made.Moves asked ≡ Made.Moves other = is_made ∙ is_move in
       let same_order : asked ≡ other = cc in
-      grants ms f next (subst (λ a. asks.MakesOrder plan a ms followed.next next) same_order makes_it) (subst (λ a. asks.AreDenied a f ms) same_order ends)
+      grants ms f next (subst (λ a. asks.MakesOrder plan a ms followed.whole.v next) same_order makes_it) (subst (λ a. asks.AreDenied a f ms) same_order ends)
   denied_there asked (tape.GiveUp k) made is_made is_give grants ms f next makes_it ends = let e : Made.Moves asked ≡ Made.GivesUp k = is_made ∙ is_give in cc
   denied_there asked (tape.Close k) made is_made (waits, is_give) grants ms f next makes_it ends = let e : Made.Moves asked ≡ Made.GivesUp k = is_made ∙ is_give in cc
   denied_there asked (tape.Open protocol node) made is_made none grants ms f next makes_it ends = none
@@ -161,28 +169,28 @@ module _ {D : Type 0} (on : View D) (start last : World D) (begins : IsAtBeginni
   denied_there asked tape.End made is_made none grants ms f next makes_it ends = none
 
   -- the step of this outcome was refused, and so the machine refuses one that the order asks for
-  refuses_by : (order : Order) (made : Made) (fault : TapeFault) → FirstStep order sessions made → Grants plan order followed.now followed.next
+  refuses_by : (order : Order) (made : Made) (fault : TapeFault) → FirstStep order sessions made → Grants plan order followed.now followed.whole.v
       → (outcome : Outcome) → IsDenied fault outcome → made_of outcome ≡ made → (between : List Awaited) (mid : World D) → Came on outcome followed.between followed.mid between mid → ⊥
   refuses_by order made fault first_step grants (Moved asked made_steps sum up) (cause, denied, stops) is_made between mid (makes_order, left_is, sum_is, up_is) =
       let r = is_refusal cause fault stops in
-      let o = order_follows on plan asked made_steps followed.mid mid followed.known followed.next followed.stands makes_order in
-      denied_there asked order made is_made first_step grants (map made_seen made_steps) r.0 o.next o.makes (denied_alike asked cause r.0 r.1 made_steps denied)
+      let o = order_follows on plan asked made_steps followed.mid mid followed.known followed.whole makes_order in
+      denied_there asked order made is_made first_step grants (map made_seen made_steps) r.0 o.whole.v o.makes (denied_alike asked cause r.0 r.1 made_steps denied)
   refuses_by line made fault first_step grants (Settling (Err cause) made_steps) stops is_made between mid (makes_it, are, left_is) = ⊎_elim
       (λ (by_step : IsRefusedBy cause makes_it.steps).
       let r = is_refusal by_step.cause fault (stays_cause by_step.cause fault (sym (ap stop_by by_step.is) ∙ stops)) in
-      let o = settle_follows on plan made_steps followed.mid mid followed.known followed.next followed.stands (subst AreOfSettle are makes_it.of) (subst (λ (l : List StepMade). MakesSteps on l followed.mid mid) are makes_it.made) in
-      denied_there order.Settle line made is_made first_step grants (map made_seen made_steps) r.0 o.next o.makes
+      let o = settle_follows on plan made_steps followed.mid mid followed.known followed.whole (subst AreOfSettle are makes_it.of) (subst (λ (l : List StepMade). MakesSteps on l followed.mid mid) are makes_it.made) in
+      denied_there order.Settle line made is_made first_step grants (map made_seen made_steps) r.0 o.whole.v o.makes
       (denied_alike order.Settle by_step.cause r.0 r.1 made_steps (by_step.ends.front, by_step.ends.one, sym are ∙ by_step.ends.split, by_step.ends.failed)))
       (λ (vain : SweepsInVain on cause followed.mid mid makes_it.steps). let never : why.NoMemory ≡ why.Bad fault = sym (ap stop_by vain.is) ∙ stops in cc)
       makes_it.shape
   refuses_by order made fault first_step grants (KeptUp k ticket cause) stops is_made between mid (asked, among, is, left_is) =
       let r = is_refusal cause fault stops in
-      let l = led on plan true (Err cause) (step.GiveUp ticket) followed.mid mid followed.known (inl refl) tt is followed.next followed.stands in
-      by order first_step grants r.0 l.next (followed.stood (record { ticket = ticket; session = k; call = asked }) among)
-      (subst (λ out. MakesStep plan true followed.next (steps.Step.GiveUp ticket) out l.next) r.1 l.made)
+      let l = led on plan (Err cause) (step.GiveUp ticket) followed.mid mid followed.known tt is followed.whole in
+      by order first_step grants r.0 l.whole.v (followed.stood (record { ticket = ticket; session = k; call = asked }) among)
+      (subst (λ out. MakesStep plan true followed.whole.v (whole_steps.Step.OfMessages (steps.Step.GiveUp ticket)) out l.whole.v) r.1 l.made)
     where
-      by : (o : Order) → FirstStep o sessions made → Grants plan o followed.now followed.next → (f : steps.StepFault) (next : machine.World) → Among (record { session = k; ticket = ticket }) followed.now
-          → MakesStep plan true followed.next (steps.Step.GiveUp ticket) (steps.StepOutcome.Refused f) next → ⊥
+      by : (o : Order) → FirstStep o sessions made → Grants plan o followed.now followed.whole.v → (f : whole_steps.StepFault) (next : Machine) → Among (record { session = k; ticket = ticket }) followed.now
+          → MakesStep plan true followed.whole.v (whole_steps.Step.OfMessages (steps.Step.GiveUp ticket)) (whole_steps.StepOutcome.Refused f) next → ⊥
       by (tape.Moves other) (may, is_move) grants f next stands_there refused = let e : Made.GivesUp k ≡ Made.Moves other = is_made ∙ is_move in cc
       by (tape.GiveUp j) is_give grants f next stands_there refused =
           let e : Made.GivesUp k ≡ Made.GivesUp j = is_made ∙ is_give in
@@ -199,7 +207,7 @@ module _ {D : Type 0} (on : View D) (start last : World D) (begins : IsAtBeginni
   refuses_by order made fault first_step grants outcome denied is_made between mid came = absurd denied
 
   -- the step that was refused is one that the machine refuses
-  pub refuses : (order : Order) (made : Made) (fault : TapeFault) → EndsDenied fault outcomes → driven.extra ≡ made ∷ [] → FirstStep order sessions made → Grants plan order followed.now followed.next → ⊥
+  pub refuses : (order : Order) (made : Made) (fault : TapeFault) → EndsDenied fault outcomes → driven.extra ≡ made ∷ [] → FirstStep order sessions made → Grants plan order followed.now followed.whole.v → ⊥
   refuses order made fault denied extra_is first_step grants =
       by leads.rest refl (subst (λ l. EndsWith l leads.rest stop lacking driven.extra) (none_left leads.last leads.rest stop lacking driven.extra leads.ends ample) leads.ends)
     where

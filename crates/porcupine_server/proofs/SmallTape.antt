@@ -8,7 +8,7 @@ use Rattle.session_model.specs.Sessions.{Session}
 use Rattle.session_model.specs.Run.{IsHandled}
 use Rattle.worked_sessions.specs.OneMessage.{small_plan, small_lines, greeted, texting, small_mail, waiting, at_hello}
 use Rattle.worked_sessions.proofs.Lines.{idle_line, has_alice, text_lines}
-use Rattle.cluster_model.specs.WorldLaws.{opening_world}
+use Rattle.joint_world.specs.First.{first_world}
 use Rattle.accepted_tapes.specs.Accepted.{AreAccepted}
 use Rattle.accepted_tapes.proofs.AcceptedLines.{Leads, Chained, chain_accepts}
 use Rattle.accepted_tapes.proofs.AcceptedLines.Stage.{Fresh, One, On, Unknown}
@@ -43,8 +43,8 @@ chained : Chained small_plan small_lines small_lines Fresh
 chained = told_chain 1 refl small_lines (codes "say 1 ." ∷ codes "say 1 QUIT" ∷ []) (On, period, (Unknown, quit, tt))
 
 accepted : AreAccepted small_plan small_lines
-accepted map front line rest acts outputs sessions calls w split runs follows sound alone =
-    chain_accepts small_plan small_lines small_lines Fresh chained [] [] [] (opening_world 1 map) (refl, refl, refl, (map, refl)) front line rest acts outputs sessions calls w split runs follows sound
+accepted map front line rest acts outputs sessions calls w members split runs follows sound alone =
+    chain_accepts small_plan small_lines small_lines Fresh chained [] [] [] (first_world 1 map) (refl, refl, refl, (map, members, refl)) front line rest acts outputs sessions calls w split runs follows sound
 
 octets : length (flat_map ended small_lines ++ ended (codes "end")) ≡ 157
 octets = refl

@@ -1,5 +1,5 @@
 -- A node that failed in the acts of run lines is one of the plan.
-use Rattle.std.proofs.Common.{◌≡◌, ◌≢◌, inl, inr, ⊎_elim, ◌+◌, ◌<◌, ◌≤◌, ℕ, zero, suc, Bool, true, false, ◌||◌, not, List, [], ◌∷◌, ◌++◌, length, flat_map, Option, Some, None, refl, sym, ap, ◌∙◌, subst, arith, nat_eq, nat_lt}
+use Rattle.std.proofs.Common.{◌≡◌, ◌≢◌, inl, inr, ⊎_elim, ◌+◌, ◌<◌, ◌≤◌, ℕ, zero, suc, Bool, true, false, ◌||◌, List, [], ◌∷◌, ◌++◌, length, flat_map, Option, Some, None, refl, sym, ap, ◌∙◌, subst, arith, nat_eq, nat_lt}
 use Rattle.std.proofs.lemmas.Option.{none-some}
 use Rattle.std.proofs.lemmas.Bool.{cases_eq, eqb-false, ltb-false, or_parts}
 use Rattle.std.proofs.lemmas.Bool.Decides.{nat_tests}
@@ -10,7 +10,7 @@ use Rattle.mail_model.specs.Tape.Order.{Open, Say, Feed, Close, GiveUp, Moves, E
 use Rattle.mail_model.specs.Tape.ClusterOrder.{Crash, Start, Lose, Post, Again, Drop, Flow, Push, Widen, Group, Conclude, Regroup, Report, Settle, Maps, Tick, Sum}
 use Rattle.mail_model.specs.Lines.{sent_line}
 use Rattle.mail_model.specs.Site.{TapeFault}
-use Rattle.mail_model.specs.Site.TapeFault.{BadLine, NoSuchNode}
+use Rattle.mail_model.specs.Site.TapeFault.{NoSuchNode}
 use Rattle.mail_model.specs.Transcript.{Entry}
 use Rattle.mail_model.proofs.Sessions.{by_number}
 use Rattle.object_model.specs.Lists.{Among}
@@ -25,7 +25,7 @@ use Rattle.session_model.specs.Lives.{life_after, failed_by, failed_in}
 use Rattle.session_model.specs.Clocks.{seconds_after}
 use Rattle.session_model.specs.Turns.{Turn, Next, ActsGo, Starts, IsAtNode}
 use Rattle.session_model.specs.Turns.Turn.{Hearing, Beginning, Closing, Falling, Asking}
-use Rattle.session_model.specs.Run.{IsHandled, AreHandled, refusal, cluster_refusal, fault_if, is_no_node, can_serve}
+use Rattle.session_model.specs.Run.{IsHandled, AreHandled, refusal, cluster_refusal, fault_if, is_no_node}
 use Rattle.session_model.proofs.Did.{did_kind}
 use Rattle.session_model.proofs.Acts.{replaced, replaced_other, pushed, pushed_other}
 
@@ -173,7 +173,7 @@ module _ (plan : Plan) (been : List Act) (old new : List Session) (all : AllOfPl
       opens = subst (λ (a : Act). Acted plan old a entries new) is acted
 
       there : IsOfPlan plan node
-      there = not_so (is_no_node plan node) NoSuchNode (first_none _ _ (second_none (fault_if (not (can_serve plan protocol)) BadLine) _ accepted))
+      there = not_so (is_no_node plan node) NoSuchNode (first_none _ _ accepted)
 
       opened : AllOfPlan plan new
       opened j session at = ⊎_elim

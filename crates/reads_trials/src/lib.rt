@@ -13,6 +13,7 @@
 //! | `tests/answers.rt` | no table: how an ask was answered |
 //! | `tests/cluster.rt` | no table: the nodes, their letters, and the acts that a table names |
 //! | `tests/logins.rt` | a login over three nodes with each of its letters lost, repeated and out of order; its manager down at each moment; words and lists that answer nothing |
+//! | `tests/judging.rt` | no table: what a manager says of a secret and of digests |
 //! | `tests/fetches.rt` | a fetch whose first holder is down, and whose last is; parts that come twice or late |
 //!
 //! STANDS ON

@@ -2,5 +2,6 @@
 mod answers;
 mod cluster;
 mod fetches;
+mod judging;
 mod logins;
 mod messages;

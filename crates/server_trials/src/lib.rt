@@ -9,10 +9,11 @@
 //!
 //! | Table | What is tried |
 //! |---|---|
-//! | `tests/examples.rt` | the tapes of the folder `examples`, with their transcripts |
+//! | `tests/examples.rt`, `tests/cluster_examples.rt` | the tapes of the folder `examples`, with their transcripts |
 //! | `tests/plans.rt`, `tests/run_lines.rt` | each line of a tape, and each fault that it may have |
 //! | `tests/replies.rt`, `tests/recipients.rt`, `tests/messages.rt` | sessions that take mail |
 //! | `tests/maildrops.rt`, `tests/deletions.rt` | sessions that show it, and delete it |
+//! | `tests/logins.rt`, `tests/elsewhere.rt` | users who read at a node that has none of their mail: letters of a login that are lost, repeated and out of order, stops, locks; messages that are read and deleted there |
 //! | `tests/pieces.rt` | octets in any pieces |
 //! | `tests/clusters.rt`, `tests/three_nodes.rt`, `tests/crashes.rt` | several nodes: letters, stops, starts and losses |
 //! | `tests/regroups.rt` | epochs: groups that lines open and conclude, and regroups |

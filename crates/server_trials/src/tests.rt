@@ -1,13 +1,16 @@
 // Whole tapes, and a service, over an outside in memory.
 
 mod clocks;
+mod cluster_examples;
 mod clusters;
 mod command_line;
 mod crashes;
 mod deletions;
 mod driving;
+mod elsewhere;
 mod examples;
 mod faults;
+mod logins;
 mod maildrops;
 mod messages;
 mod pieces;

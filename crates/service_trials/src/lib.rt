@@ -11,7 +11,7 @@
 //! | File | What is tried |
 //! |---|---|
 //! | `tests/held.rt` | two clients side by side: the one that comes first is held until the other was answered |
-//! | `tests/mail.rt` | at one node a text of 3,000 octets goes in by SMTP and is read back by POP3; at three a message has two copies, and who would read it is turned away |
+//! | `tests/mail.rt` | at one node a text of 3,000 octets goes in by SMTP and is read back by POP3; at three a message has two copies, and is read at a node that did not take it |
 //! | `tests/console.rt` | each line of the console and each refusal; its end without `stop`; a node that stops in the middle of a text, starts again and is let in; one that is not let in takes no mail; two of four nodes are lost, and those that are left regroup |
 //! | `tests/silent.rt` | a silent client, and one that stops in the middle of a text: others are served beside them, and the service ends |
 //! | `tests/faults.rt` | each door that cannot be opened, each call of a door, of a disk, and of the console's source and sink failing in turn |

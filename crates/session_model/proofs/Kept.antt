@@ -42,8 +42,9 @@ use Rattle.session_model.proofs.Storing.{IsShownMail, told_so, filings_both}
 use Rattle.session_model.proofs.Deleting.{goes_as, reads_mail, deletes, dropped, true_answers_delete}
 use Rattle.session_model.proofs.Filing.{true_answers_show}
 use Rattle.session_model.proofs.Once.{true_listings_show}
+use Rattle.session_model.proofs.Own.{own_listings_show}
 use Rattle.session_model.proofs.MailTalk.{sessions_shown, sessions_take_mail, sessions_read_mail}
-use Rattle.session_model.proofs.Owed.{logged, answer_among, owed_deletions_are_true, owed_listings_are_true, owed_parts_are_true}
+use Rattle.session_model.proofs.Owed.{logged, answer_among, owed_deletions_are_true, owed_listings_are_true, owed_listings_are_own, owed_parts_are_true}
 use Rattle.session_model.proofs.Striking.{quit_strikes}
 use Rattle.session_model.proofs.Driven.{IsWritten, driven_written, wrote_shown, shown_last, wrote_acked}
 use Rattle.session_model.proofs.Resting.{driven_answers_units}
@@ -341,6 +342,8 @@ owed_is_kept plan tells stop handled left acts others made entries ending last s
     shown_as_filed = λ told. true_answers_show plan lines (entries ++ ending) filed sessions shows.are
         (owed_parts_are_true plan lines (entries ++ ending) filed done sessions shows (owes.parts told));
     shown_once = true_listings_show plan lines (entries ++ ending) sessions shows.are (owed_listings_are_true plan lines (entries ++ ending) disks done sessions shows owed);
+    shown_are_own = own_listings_show plan lines (entries ++ ending) disks sessions shows.are (owed_listings_are_true plan lines (entries ++ ending) disks done sessions shows owed)
+        (owed_listings_are_own plan lines (entries ++ ending) disks done sessions shows owes.listings);
     one_content = owes.one_content;
   };
   answered = answered;

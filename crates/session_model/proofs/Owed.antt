@@ -10,12 +10,12 @@ use Rattle.session_model.specs.Calls.Answer.{Listed, Part, Dropped}
 use Rattle.session_model.specs.Talk.{Exchange}
 use Rattle.session_model.specs.Reading.{Each, ListsOnce, ListsNamed}
 use Rattle.session_model.specs.Sessions.{Session, session_at, exchanges_of}
-use Rattle.session_model.specs.Facts.{AsksDeletion, SizesFiled, IsPartFiled}
+use Rattle.session_model.specs.Facts.{AsksDeletion, ListsOwn, SizesFiled, IsPartFiled}
 use Rattle.session_model.specs.Acts.{Act}
 use Rattle.session_model.specs.Logs.{Answered, IsLogged, answer_in, answers_of, asked_by, answered_by, asked_in, answered_in}
 use Rattle.session_model.specs.Runs.{Shows}
 use Rattle.session_model.specs.Books.{AmongAnswers}
-use Rattle.session_model.specs.Owes.{OwedDeletionsAreTrue, OwedListingsAreTrue, OwedPartsAreTrue}
+use Rattle.session_model.specs.Owes.{OwedDeletionsAreTrue, OwedListingsAreTrue, OwedListingsAreOwn, OwedPartsAreTrue}
 use Rattle.session_model.proofs.Books.{IsCallIn, among_in, call_at}
 
 -- the call with its answer is one of these
@@ -98,6 +98,11 @@ owed_listings_are_true plan lines entries disks acts sessions shows owes = recor
   named = λ k session at. each_from ListsNamed [] (exchanges_of session) (λ before behind one are user given items asks told.
       owes.named k user given items (answer_among plan lines entries acts sessions shows k session at (Login user given) (Listed items) before behind one are asks told));
 }
+
+pub owed_listings_are_own : OwedListingsAreOwn
+owed_listings_are_own plan lines entries disks acts sessions shows owes k session at =
+    each_from (ListsOwn disks) [] (exchanges_of session) (λ before behind one are user given items asks told.
+    owes k user given items (answer_among plan lines entries acts sessions shows k session at (Login user given) (Listed items) before behind one are asks told))
 
 pub owed_parts_are_true : OwedPartsAreTrue
 owed_parts_are_true plan lines entries filed acts sessions shows owes = record {

@@ -1,12 +1,13 @@
 -- What the records of nodes say of users' copies of messages. Where the store of a node tells what it holds, these are the records that it spells, and no others.
 use Rattle.std.specs.Prelude.{◌≡◌, ◌⊎◌, ℕ, ◌+◌, ◌-◌, ◌≤◌, List, [], ◌∷◌, length, ⊤, All, Option, Some, IfSome, slice_get}
-use Rattle.mail_model.specs.Identity.{Id}
+use Rattle.mail_model.specs.Identity.{Id, Stamp}
 use Rattle.mail_model.specs.Identity.Key.{Message}
+use Rattle.mail_model.specs.Identity.Value.{Here}
 use Rattle.mail_model.specs.Plan.{Plan}
 use Rattle.mail_model.specs.Tape.Protocol.{Smtp}
 use Rattle.mail_model.specs.Mail.{IsStored}
 use Rattle.mail_model.specs.Record.{Record, IsAmongRecords, IsJournal, payloads_of, SaysHere, SaysGone, HoldsOctets}
-use Rattle.mail_model.specs.Record.Record.{Octets}
+use Rattle.mail_model.specs.Record.Record.{Octets, Stated}
 use Rattle.mail_model.specs.Grammar.{IsRecord}
 use Rattle.mail_model.specs.Stored.{Ack, AreRising, opened, kind_at, IsOnClock}
 use Rattle.mail_model.specs.Book.{BookEntry}
@@ -62,6 +63,15 @@ DroppedAreGone plan disks [] = ⊤
 DroppedAreGone plan disks (Dropped user id confirmers ∷ book) =
     ((nodes : List ℕ) × (confirmers ≡ mask_of nodes) × AreGoneOn plan disks user id nodes) × DroppedAreGone plan disks book
 DroppedAreGone plan disks (entry ∷ book) = DroppedAreGone plan disks book
+
+-- Some node has a record that says that the user's copy of the message is here. It may have another that says that the copy is gone.
+pub record HasRecordOf (disks : List (List Record)) (user : List ℕ) (id : Id) : Type 0 where
+  pub n : ℕ
+  pub records : List Record
+  pub at : slice_get disks n ≡ Some records
+  pub stamp : Stamp
+  pub targets : ℕ
+  pub says : IsAmongRecords (Stated (Message user id) (record { value = Here; stamp = stamp; targets = targets })) records
 
 -- All octets that some node has of a message are those that are filed: no two nodes have other octets under one id.
 abbrev pub OneContent : (Id → Option (List ℕ)) → List (List Record) → Type 0

@@ -11,7 +11,7 @@ use Rattle.mail_model.specs.Maildrop.{Given}
 use Rattle.session_model.specs.Calls.Call.{Login, Fetch, Strike}
 use Rattle.session_model.specs.Calls.Answer.{Listed, Part, Dropped}
 use Rattle.session_model.specs.Talk.{Exchange}
-use Rattle.session_model.specs.Copies.{AreGoneOn}
+use Rattle.session_model.specs.Copies.{AreGoneOn, HasRecordOf}
 use Rattle.session_model.specs.Mailing.{StoredMail}
 use Rattle.session_model.specs.Reading.{ListsOnce, ListsNamed, Each}
 use Rattle.session_model.specs.Sessions.{Session, session_at, exchanges_of}
@@ -45,6 +45,14 @@ pub record DroppedAreTrue (plan : Plan) (disks : List (List Record)) (sessions :
 pub record ListingsAreTrue (sessions : List Session) : Type 0 where
   pub once : (k : ℕ) (session : Session) → session_at sessions k ≡ Some session → Each ListsOnce (exchanges_of session)
   pub named : (k : ℕ) (session : Session) → session_at sessions k ≡ Some session → Each ListsNamed (exchanges_of session)
+
+-- each message of a listing is one of which some node has a record as a copy of the user who was let in
+abbrev pub ListsOwn : List (List Record) → Exchange → Type 0
+ListsOwn disks one = (user : List ℕ) (given : Given) (items : List Item) → one.call ≡ Some (Login user given) → one.answer ≡ Some (Listed items) → (i : ℕ) (item : Item) → slice_get items i ≡ Some item
+    → HasRecordOf disks user item.id
+
+abbrev pub OwnAreTrue : List (List Record) → List Session → Type 0
+OwnAreTrue disks sessions = (k : ℕ) (session : Session) → session_at sessions k ≡ Some session → Each (ListsOwn disks) (exchanges_of session)
 
 -- the sizes of a listing that a login was answered with are those of what is filed
 abbrev pub SizesFiled : (Id → Option (List ℕ)) → Exchange → Type 0

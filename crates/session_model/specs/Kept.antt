@@ -13,7 +13,7 @@ use Rattle.session_model.specs.SessionParts.{AreShown, AreMailTalks, AreReaderTa
 use Rattle.session_model.specs.Acts.{Act}
 use Rattle.session_model.specs.Logs.{Asked, AreLogged, asked_by, answered_by}
 use Rattle.session_model.specs.Run.{Stop, Made, IsDriven, IsCutShort}
-use Rattle.session_model.specs.Promises.{StoredStands, DeletedByQuit, ShownAsFiled, ShownOnce}
+use Rattle.session_model.specs.Promises.{StoredStands, DeletedByQuit, ShownAsFiled, ShownOnce, ShownAreOwn}
 use Rattle.session_model.specs.Books.{AcknowledgedAsTold, AcknowledgedStand, StruckAsMarked, AreBegun}
 use Rattle.session_model.specs.Owes.{Owes}
 
@@ -29,6 +29,7 @@ pub record KeepsToClients (plan : Plan) (tells : Bool) (lines : List (List ℕ))
   pub deleted_by_quit : DeletedByQuit plan entries disks sessions
   pub shown_as_filed : tells ≡ true → ShownAsFiled filed sessions
   pub shown_once : ShownOnce sessions
+  pub shown_are_own : ShownAreOwn disks sessions
   pub one_content : OneContent filed disks
 
 -- All promises, over the run lines that were handled, the entries of the transcript, what the stores given back hold, the records of the nodes, and the book, the acts

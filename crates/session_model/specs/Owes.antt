@@ -12,9 +12,9 @@ use Rattle.mail_model.specs.Book.{BookEntry}
 use Rattle.mail_model.specs.Maildrop.{Given}
 use Rattle.session_model.specs.Calls.Call.{Login, Fetch, Strike}
 use Rattle.session_model.specs.Calls.Answer.{Listed, Part, Dropped}
-use Rattle.session_model.specs.Copies.{AreDisks, EachStands, AreGoneOn, DroppedAreGone, OneContent}
+use Rattle.session_model.specs.Copies.{AreDisks, EachStands, AreGoneOn, DroppedAreGone, HasRecordOf, OneContent}
 use Rattle.session_model.specs.Sessions.{Session}
-use Rattle.session_model.specs.Facts.{IsIn, IsGoneIn, DroppedAreTrue, ListingsAreTrue, PartsAreTrue}
+use Rattle.session_model.specs.Facts.{IsIn, IsGoneIn, DroppedAreTrue, ListingsAreTrue, OwnAreTrue, PartsAreTrue}
 use Rattle.session_model.specs.Acts.{Act}
 use Rattle.session_model.specs.Logs.{Asked, Answered, asked_by, answered_by}
 use Rattle.session_model.specs.Books.{Among, AmongAnswers, IsBookOf, AcknowledgedStand, AreAcksOf}
@@ -35,6 +35,11 @@ pub record OwesStored (plan : Plan) (lines : List (List ℕ)) (disks : List (Lis
   pub are : AreAcksOf answered acks
   pub stand : EachStands plan lines disks acks confirmers
   pub other_ids : HaveOtherIds acks
+
+-- each message of a listing is one of which some node has a record as a copy of the user who was let in
+abbrev pub OwesListings : List (List Record) → List Answered → Type 0
+OwesListings disks answered = (k : ℕ) (user : List ℕ) (given : Given) (items : List Item) → AmongAnswers (record { session = k; call = Login user given; answer = Listed items }) answered
+    → (i : ℕ) (item : Item) → slice_get items i ≡ Some item → HasRecordOf disks user item.id
 
 -- listings and parts are as it is filed
 pub record OwesParts (filed : Id → Option (List ℕ)) (answered : List Answered) : Type 0 where
@@ -61,6 +66,7 @@ pub record Owes (plan : Plan) (tells : Bool) (lines : List (List ℕ)) (stores :
   pub confirmers : List (List ℕ)
   pub stored : OwesStored plan lines disks answered acks confirmers
   pub deletions : OwesDeletions plan disks begun answered
+  pub listings : OwesListings disks answered
   pub parts : tells ≡ true → OwesParts filed answered
   pub books : OwesBook plan lines disks begun answered acks confirmers book
 
@@ -73,6 +79,10 @@ OwedDeletionsAreTrue = (plan : Plan) (lines : List (List ℕ)) (entries : List E
 abbrev pub OwedListingsAreTrue : Type 0
 OwedListingsAreTrue = (plan : Plan) (lines : List (List ℕ)) (entries : List Entry) (disks : List (List Record)) (acts : List Act) (sessions : List Session)
     → Shows plan lines entries acts sessions → OwesDeletions plan disks (flat_map asked_by acts) (flat_map answered_by acts) → ListingsAreTrue sessions
+
+abbrev pub OwedListingsAreOwn : Type 0
+OwedListingsAreOwn = (plan : Plan) (lines : List (List ℕ)) (entries : List Entry) (disks : List (List Record)) (acts : List Act) (sessions : List Session)
+    → Shows plan lines entries acts sessions → OwesListings disks (flat_map answered_by acts) → OwnAreTrue disks sessions
 
 abbrev pub OwedPartsAreTrue : Type 0
 OwedPartsAreTrue = (plan : Plan) (lines : List (List ℕ)) (entries : List Entry) (filed : Id → Option (List ℕ)) (acts : List Act) (sessions : List Session)

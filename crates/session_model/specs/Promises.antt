@@ -12,15 +12,15 @@ use Rattle.mail_model.specs.Maildrop.{bye_text}
 use Rattle.mail_model.specs.Told.{Answers, told_from}
 use Rattle.mail_model.specs.Stored.{Ack, HaveOtherIds, mails_in, opened, stored_sessions}
 use Rattle.mail_model.specs.Shown.{lines_to, ShowsId, ShowsSize, ShowsOctets, ShowsTop}
-use Rattle.mail_model.specs.Deleted.{IsMarked, IsCopyOf}
+use Rattle.mail_model.specs.Deleted.{Enters, IsMarked, IsCopyOf}
 use Rattle.session_model.specs.Calls.{Call}
 use Rattle.session_model.specs.Calls.Call.{Strike}
 use Rattle.session_model.specs.Talk.{Exchange, replies}
-use Rattle.session_model.specs.Copies.{EachStands, AreGoneOn}
+use Rattle.session_model.specs.Copies.{EachStands, AreGoneOn, HasRecordOf}
 use Rattle.session_model.specs.Mailing.{pairs}
 use Rattle.session_model.specs.Reading.{QuitsMarked, IsQuitUnit, all_seen, seen_exchange}
 use Rattle.session_model.specs.Sessions.{Session, AreSessions, session_at, exchanges_of}
-use Rattle.session_model.specs.Facts.{IsGoneIn, IsIn, DroppedAreTrue, ListingsAreTrue, PartsAreTrue}
+use Rattle.session_model.specs.Facts.{IsGoneIn, IsIn, DroppedAreTrue, ListingsAreTrue, OwnAreTrue, PartsAreTrue}
 
 -- What the client of session k was told: the units that it sent, each with its reply, and the messages that these tell, which are those of its lines `250 stored`.
 pub record IsTold (plan : Plan) (acks : List Ack) (k : ℕ) (session : Session) : Type 0 where
@@ -97,6 +97,12 @@ ShownOnce sessions = (k : ℕ) (session : Session) → session_at sessions k ≡
     → (n m : ℕ) (text : List ℕ) (before behind before_it behind_it : List Exchange) (one other : Exchange) → n < 10 ^ 63 → m < 10 ^ 63
     → session.whole ≡ before ++ one ∷ behind → ShowsId n text (seen_exchange one) → session.whole ≡ before_it ++ other ∷ behind_it → ShowsId m text (seen_exchange other) → n ≡ m
 
+-- Each message whose id UIDL shows is one of which some node has a record as a copy of the user as whom the session entered.
+abbrev pub ShownAreOwn : List (List Record) → List Session → Type 0
+ShownAreOwn disks sessions = (k : ℕ) (session : Session) → session_at sessions k ≡ Some session → session.protocol ≡ Pop
+    → (n : ℕ) (text : List ℕ) (before behind : List Exchange) (one : Exchange) → n < 10 ^ 63 → session.whole ≡ before ++ one ∷ behind → ShowsId n text (seen_exchange one)
+    → (user : List ℕ) × (id : Id) × Enters (all_seen session.whole) user × (id_text id ≡ text) × HasRecordOf disks user id
+
 -- The promises follow for every tape and every status from the sessions and from facts about answers.
 abbrev pub TrueAnswersDelete : Type 0
 TrueAnswersDelete = (plan : Plan) (lines : List (List ℕ)) (entries : List Entry) (disks : List (List Record)) (sessions : List Session)
@@ -110,3 +116,7 @@ TrueAnswersShow = (plan : Plan) (lines : List (List ℕ)) (entries : List Entry)
 abbrev pub TrueListingsShow : Type 0
 TrueListingsShow = (plan : Plan) (lines : List (List ℕ)) (entries : List Entry) (sessions : List Session)
     → AreSessions plan lines entries sessions → ListingsAreTrue sessions → ShownOnce sessions
+
+abbrev pub OwnListingsShow : Type 0
+OwnListingsShow = (plan : Plan) (lines : List (List ℕ)) (entries : List Entry) (disks : List (List Record)) (sessions : List Session)
+    → AreSessions plan lines entries sessions → ListingsAreTrue sessions → OwnAreTrue disks sessions → ShownAreOwn disks sessions

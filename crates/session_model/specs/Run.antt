@@ -1,8 +1,7 @@
 -- How a tape is driven: the lines that were handled, the acts and the steps that each led to, what was written, and why the work stopped.
 use Rattle.std.specs.Prelude.{◌≡◌, ◌≢◌, ◌⊎◌, ℕ, ◌+◌, Bool, true, false, ◌||◌, not, nat_eq, nat_lt, nat_le, List, [], ◌∷◌, ◌++◌, map, flat_map, ⊤, Option, Some, None, if◌then◌else◌}
 use Rattle.mail_model.specs.Plan.{Plan, is_user}
-use Rattle.mail_model.specs.Tape.{Protocol, Order, ClusterOrder, tape_order, or_else}
-use Rattle.mail_model.specs.Tape.Protocol.{Smtp, Pop}
+use Rattle.mail_model.specs.Tape.{Order, ClusterOrder, tape_order, or_else}
 use Rattle.mail_model.specs.Tape.Order.{Open, Say, Feed, Close, GiveUp, End}
 use Rattle.mail_model.specs.Tape.ClusterOrder.{Crash, Start, Lose, Post, Again, Drop, Flow, Push, Widen, Group, Conclude, Regroup, Report, Settle, Maps, Tick, Sum}
 use Rattle.mail_model.specs.Transcript.{Entry}
@@ -97,11 +96,6 @@ loss_fault (Up boot) = None
 loss_fault Down = None
 loss_fault Lost = Some NodeLost
 
--- Mail is read in a cluster of one node alone.
-abbrev pub can_serve : Plan → Protocol → Bool
-can_serve plan Smtp = true
-can_serve plan Pop = nat_le plan.nodes 1
-
 -- Why an order that moves the cluster is refused, the first that applies. Whether a letter is in flight, a group is open, there is room for letters, or a number is
 -- used up, the cluster alone can tell.
 abbrev pub cluster_refusal : Plan → (ℕ → NodeLife) → ClusterOrder → Option TapeFault
@@ -128,9 +122,8 @@ cluster_refusal plan lives Sum = None
 -- why an order is refused after the acts so far, the first that applies
 abbrev pub refusal : Plan → List Act → List Session → Order → Option TapeFault
 refusal plan been sessions (Open protocol node) =
-    or_else (fault_if (not (can_serve plan protocol)) BadLine)
-    (or_else (fault_if (is_no_node plan node) NoSuchNode)
-    (or_else (work_fault (life_after been node)) (fault_if (nat_le 256 (count_on sessions)) TooManySessions)))
+    or_else (fault_if (is_no_node plan node) NoSuchNode)
+    (or_else (work_fault (life_after been node)) (fault_if (nat_le 256 (count_on sessions)) TooManySessions))
 refusal plan been sessions (Say k text) = session_fault (session_at sessions k)
 refusal plan been sessions (Feed k octets) = session_fault (session_at sessions k)
 refusal plan been sessions (Close k) = session_fault (session_at sessions k)

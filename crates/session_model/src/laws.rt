@@ -7,10 +7,10 @@ ghost use Rattle.session_model.specs.Reading.{StrikesAtQuit, QuitStrikes};
 ghost use Rattle.session_model.specs.Showing.{ShownAsListed};
 ghost use Rattle.session_model.specs.Runs.{ActsAreShown, DrivenIsShown, DrivenWritesLines, DrivenAnswersUnits, StandingAreUp};
 ghost use Rattle.session_model.specs.Losses.{LostIsShown};
-ghost use Rattle.session_model.specs.Owes.{OwedDeletionsAreTrue, OwedListingsAreTrue, OwedPartsAreTrue};
+ghost use Rattle.session_model.specs.Owes.{OwedDeletionsAreTrue, OwedListingsAreTrue, OwedListingsAreOwn, OwedPartsAreTrue};
 ghost use Rattle.session_model.specs.Kept.{OwedIsKept};
 ghost use Rattle.session_model.specs.Readings.{OneReadingOfSession, OneTelling, QuitWasSent};
-ghost use Rattle.session_model.specs.Promises.{GoneAtMostMarked, TrueAnswersDelete, TrueAnswersShow, TrueListingsShow};
+ghost use Rattle.session_model.specs.Promises.{GoneAtMostMarked, TrueAnswersDelete, TrueAnswersShow, TrueListingsShow, OwnListingsShow};
 
 /// A session that was opened has said nothing but its greeting.
 pub fn begins()
@@ -92,6 +92,11 @@ pub fn true_listings_show()
     ensures { TrueListingsShow }
 {}
 
+/// Where listings are of the user's own messages, no reader was shown another's.
+pub fn own_listings_show()
+    ensures { OwnListingsShow }
+{}
+
 /// However the work on a tape is left off, its transcript shows the sessions that its acts
 /// made, with what these asked and were answered.
 pub fn acts_are_shown()
@@ -106,6 +111,11 @@ pub fn owed_deletions_are_true()
 /// Each listing that it owes has each id once.
 pub fn owed_listings_are_true()
     ensures { OwedListingsAreTrue }
+{}
+
+/// And each message of a listing is one of the user who was let in.
+pub fn owed_listings_are_own()
+    ensures { OwedListingsAreOwn }
 {}
 
 /// What it owes of listings and parts is true in the sessions that were shown them.

@@ -39,8 +39,9 @@
 //! WHAT IT DOES NOT DO
 //!
 //! It has no code. It does not say which letters nodes send, nor what a node does with a call: of
-//! these it asks only what a cluster owes. Mail is read in a plan of one node alone. Of the
-//! seconds of a message it says that they are 0 or those of a `tick` line, and not of which.
+//! these it asks only what a cluster owes. What a listing shows is its user's own (`ShownAreOwn`);
+//! that it shows all that is there is not promised. Of the seconds of a message it says that they are
+//! 0 or those of a `tick` line, and not of which.
 #![tactic(auto)]
 
 pub mod laws;

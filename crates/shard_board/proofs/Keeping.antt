@@ -1,24 +1,20 @@
 -- What stays of a world over its steps.
-use Rattle.std.proofs.Common.{◌≡◌, ◌⊎◌, inl, inr, ℕ, nat_eq, suc, Bool, true, false, true≢false, eqb-true, List, [], ◌∷◌, ◌++◌, refl, sym, ap, ◌∙◌, subst, append-nil, append_assoc, ◌≤◌, arith}
+use Rattle.std.proofs.Common.{◌≡◌, ◌⊎◌, inl, inr, ℕ, nat_eq, suc, Bool, true, false, true≢false, eqb-true, List, [], ◌∷◌, ◌++◌, refl, sym, ap, ◌∙◌, subst, append-nil, append_assoc}
 use Rattle.std.specs.Prelude.{MatchBool, Result, Option, is_some}
 use Rattle.std.specs.List.{list_all}
 use Rattle.mail_model.specs.Plan.{Plan}
-use Rattle.cluster_model.specs.World as machine
-use Rattle.cluster_model.specs.World.{cluster_of}
-use Rattle.cluster_model.specs.WorldLaws.{InPlan, opening_world}
-use Rattle.cluster_model.specs.Parts.{Sound}
-use Rattle.cluster_model.proofs.Opening.{opening_sound}
-use Rattle.cluster_model.proofs.Running.{steps_sound}
+use Rattle.joint_world.specs.World.{World as Machine, mail_world_of}
 use Rattle.desk_model.specs.Tickets.{TicketsAskOneThing}
 use Rattle.desk_model.proofs.Tickets.{steps_ask_one_thing, opening_asks_one_thing}
 use Rattle.node_store.specs.Disks.{View}
 use Rattle.whole_node.specs.Starting.{first_map}
 use Rattle.cluster_world.specs.Books.{IsLongerBook}
-use Rattle.cluster_world.specs.Worlds.{state_of, plan_of, book_of, disks_of, disks_tell, CanMakeSteps, StandsFor}
+use Rattle.cluster_world.specs.Worlds.{state_of, plan_of, book_of, disks_of, disks_tell, CanMakeSteps}
 use Rattle.cluster_world.specs.Steps.{IsStep, IsBlind, StepIsKnown}
 use Rattle.cluster_world.specs.Ended.{IsEnded}
 use Rattle.cluster_world.specs.Seen.{step_seen, outcome_seen}
 use Rattle.cluster_world.specs.Made.{StepMade, MakesSteps, PostsAll, IsOfRegroup, AreOfRegroup, has_failed}
+use Rattle.cluster_world.specs.Sound.{IsWhole}
 use Rattle.cluster_world.specs.Settling.{IsOfSettle, AreOfSettle}
 use Rattle.cluster_world.specs.Settling.IsOfSettle.{Posts, Pushes, Reports}
 use Rattle.cluster_world.specs.declared.settling.Settle.{Settle}
@@ -29,9 +25,11 @@ use Rattle.cluster_world.specs.declared.step.Said.{Said}
 use Rattle.cluster_world.specs.declared.regrouping.Regroup.{Regroup}
 use Rattle.cluster_world.specs.declared.fault.StepFault.{StepFault}
 use Rattle.cluster_world.proofs.Chained.{tells_alike}
+use Rattle.cluster_world.proofs.Righted.{rests_right}
+use Rattle.cluster_world.proofs.Leading.{step_leads, opens_whole}
 use Rattle.shard_board.specs.Deeds.{Regroups, Settles, is_blind}
 use Rattle.shard_board.specs.Pages.{is_known_over}
-use Rattle.shard_board.specs.Worlds.{KeepsWorld, AllKnown, StepsKeepWorld, FlowsKeepWorld, OpenedIsSound}
+use Rattle.shard_board.specs.Worlds.{KeepsWorld, AllKnown, StepsKeepWorld, FlowsKeepWorld, OpenedIsSound, SoundRestsRight}
 
 -- disks of which each tells what it holds
 pub all_tell : {D : Type 0} (seen : D → Option (List ℕ)) → ((disk : D) → is_some (seen disk) ≡ true) → (disks : List D) → list_all (λ disk. is_some (seen disk)) disks ≡ true
@@ -94,11 +92,8 @@ settle_known tells nodes (one ∷ more) known (here, rest) = (settle_step_known 
 module _ {D : Type 0} (on : View D) where
   -- a sound world of the machine for which it stands
   pub record IsSound (world : World D) : Type 0 where
-    pub w : machine.World
-    pub stands : StandsFor on world w
-    pub in_plan : InPlan (plan_of world).nodes w.slots
-    pub sound : Sound (plan_of world).confirm (cluster_of w)
-    pub tickets : TicketsAskOneThing w.slots
+    pub whole : IsWhole on (plan_of world) world
+    pub tickets : TicketsAskOneThing (mail_world_of whole.v).slots
 
   -- what stays, but that the world can make steps
   pub record Stays (old new : World D) : Type 0 where
@@ -127,14 +122,11 @@ module _ {D : Type 0} (on : View D) where
     told = tells_alike on.seen (disks_of old) (disks_of new) is.did.handed (λ k x y. is.did.told.each (suc k) x y);
     longer = is.did.books;
     sound = λ s.
-        let l = is.did.leads known ended s.w s.stands in
-        let both = steps_sound (plan_of old) (disks_tell on.seen old) s.w l.next (record { step = step_seen step; outcome = outcome_seen result } ∷ []) (l.next, l.made, refl) s.in_plan s.sound in
+        let l = step_leads on result step old new known ended is s.whole in
         record {
-          w = l.next;
-          stands = l.stands;
-          in_plan = subst (λ (p : Plan). InPlan p.nodes l.next.slots) (sym is.did.plan) both.0;
-          sound = subst (λ (p : Plan). Sound p.confirm (cluster_of l.next)) (sym is.did.plan) both.1;
-          tickets = steps_ask_one_thing (plan_of old) (disks_tell on.seen old) s.w l.next (step_seen step) (outcome_seen result) l.made s.sound s.tickets;
+          whole = l.whole;
+          tickets = steps_ask_one_thing (plan_of old) (disks_tell on.seen old) (mail_world_of s.whole.v) (mail_world_of l.whole.v) (step_seen step) (outcome_seen result) l.seen s.whole.sound.whole.sound.mail
+              s.tickets;
         };
   }
 
@@ -161,8 +153,8 @@ module _ {D : Type 0} (on : View D) where
     plan = s.plan;
     longer = s.longer;
     sound = λ c.
-        let sound = s.sound (record { w = c.plain; stands = c.stands; in_plan = c.in_plan; sound = c.sound; tickets = c.tickets }) in
-        record { ready = ready; plain = sound.w; stands = sound.stands; in_plan = sound.in_plan; sound = sound.sound; tickets = sound.tickets };
+        let sound = s.sound (record { whole = c.whole; tickets = c.tickets }) in
+        record { ready = ready; whole = sound.whole; tickets = sound.tickets };
   }
 
   pub keeps_step : (result : Result Said StepFault) (step : Step) (old new : World D) → StepIsKnown on.seen (state_of old) step → IsEnded step → CanMakeSteps on.seen new
@@ -208,16 +200,16 @@ module _ {D : Type 0} (on : View D) where
 
   pub opened_is_sound : OpenedIsSound on
   opened_is_sound plan world begins =
-      let few : plan.nodes ≤ 64 = omega (arith, world.nodes.few, ap (λ (p : Plan). p.nodes) begins.plan_is) in
-      let opens = opening_sound plan.nodes plan.confirm (first_map plan) few in
+      let opens = opens_whole on plan world begins in
       record {
         ready = begins.ready;
-        plain = opening_world plan.nodes (first_map plan);
-        stands = begins.stands;
-        in_plan = subst (λ (p : Plan). InPlan p.nodes (opening_world plan.nodes (first_map plan)).slots) (sym begins.plan_is) opens.0;
-        sound = subst (λ (p : Plan). Sound p.confirm (cluster_of (opening_world plan.nodes (first_map plan)))) (sym begins.plan_is) opens.1;
-        tickets = opening_asks_one_thing plan.nodes (first_map plan);
+        whole = opens.0;
+        tickets = subst (λ (v : Machine). TicketsAskOneThing (mail_world_of v).slots) (sym opens.1)
+            (subst (λ w. TicketsAskOneThing w.slots) (sym opens.2) (opening_asks_one_thing plan.nodes (first_map plan)));
       }
+
+  pub sound_rests_right : SoundRestsRight on
+  sound_rests_right world s rest = rests_right on (plan_of world) world s.whole rest
 
   -- what the machine does in a step is known, where it is blind or the disks tell
   pub known_so : (world : World D) (step : Step) → is_known_over on.seen (is_blind (plan_of world).nodes step) world ≡ true → StepIsKnown on.seen (state_of world) step

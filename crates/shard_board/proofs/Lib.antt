@@ -4,3 +4,4 @@ pub mod Weighing
 pub mod Paged
 pub mod Showing
 pub mod Turning
+pub mod Known

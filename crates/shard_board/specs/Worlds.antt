@@ -1,28 +1,25 @@
 -- What stays of a world, whatever is done with it.
 use Rattle.std.specs.Prelude.{◌≡◌, ◌⊎◌, ℕ, Bool, true, List, [], ◌∷◌, ⊤}
 use Rattle.mail_model.specs.Plan.{Plan}
-use Rattle.cluster_model.specs.World as machine
-use Rattle.cluster_model.specs.World.{cluster_of}
-use Rattle.cluster_model.specs.WorldLaws.{InPlan}
-use Rattle.cluster_model.specs.Parts.{Sound}
+use Rattle.joint_world.specs.World.{mail_world_of}
 use Rattle.desk_model.specs.Tickets.{TicketsAskOneThing}
 use Rattle.node_store.specs.Disks.{View}
 use Rattle.cluster_world.specs.Books.{IsLongerBook}
-use Rattle.cluster_world.specs.Worlds.{plan_of, book_of, disks_tell, CanMakeSteps, StandsFor}
+use Rattle.cluster_world.specs.Rests.{HasRightMaps}
+use Rattle.cluster_world.specs.Settling.{IsAtRest}
+use Rattle.cluster_world.specs.Sound.{IsWhole}
+use Rattle.cluster_world.specs.Worlds.{state_of, plan_of, book_of, disks_tell, CanMakeSteps}
 use Rattle.cluster_world.specs.Steps.{IsBlind}
 use Rattle.cluster_world.specs.Ended.{IsEnded}
 use Rattle.cluster_world.specs.Opens.{IsAtBeginning}
 use Rattle.cluster_world.specs.Made.{StepMade, MakesSteps, PostsAll}
 use Rattle.cluster_world.specs.declared.world.World.{World}
 
--- It can make steps, and stands for a world of the machine that is sound and in which each ticket asks for one thing.
+-- It can make steps, and stands for a sound world of the whole machine, in which each ticket of messages asks for one thing.
 pub record IsSoundWorld {D : Type 0} (on : View D) (world : World D) : Type 0 where
   pub ready : CanMakeSteps on.seen world
-  pub plain : machine.World
-  pub stands : StandsFor on world plain
-  pub in_plan : InPlan (plan_of world).nodes plain.slots
-  pub sound : Sound (plan_of world).confirm (cluster_of plain)
-  pub tickets : TicketsAskOneThing plain.slots
+  pub whole : IsWhole on (plan_of world) world
+  pub tickets : TicketsAskOneThing (mail_world_of whole.v).slots
 
 -- Its plan stays, and its book only grows. A sound world stays sound.
 pub record KeepsWorld {D : Type 0} (on : View D) (old new : World D) : Type 0 where
@@ -47,3 +44,7 @@ FlowsKeepWorld {D} on = (steps : List StepMade) (old new : World D) → CanMakeS
 -- A world that was opened is sound.
 abbrev pub OpenedIsSound : {D : Type 0} → View D → Type 0
 OpenedIsSound {D} on = (plan : Plan) (world : World D) → IsAtBeginning on plan world → IsSoundWorld on world
+
+-- A sound world that is at rest has right maps.
+abbrev pub SoundRestsRight : {D : Type 0} → View D → Type 0
+SoundRestsRight {D} on = (world : World D) → IsSoundWorld on world → IsAtRest (state_of world) → HasRightMaps on (state_of world)

@@ -41,7 +41,8 @@
 //!   nothing a start is not known, nor a push or a settle among several nodes: whoever has seen one tells nothing any more.
 //! - `made_known` says that what a pass and those that it took in made is known. Each call but those three leaves it as it
 //!   is, and where it holds of the pass that closes the board, the world is sound.
-//! - `specs/Worlds.antt` has what stays of a world over known steps. The law is `steps_keep_world`.
+//! - `specs/Worlds.antt` has what stays of a world over known steps. The law is `steps_keep_world`. A sound world that is at rest
+//!   has right maps (`sound_rests_right`).
 //!
 //! DIAGNOSTICS
 //!
@@ -49,7 +50,7 @@
 //!
 //! STANDS ON
 //!
-//! `turnstile` for the lock, `cluster_world` for the world and its steps, `cluster_model` for what a sound cluster is, and
+//! `turnstile` for the lock, `cluster_world` for the world and its steps and for what a sound one is, and
 //! `desk_model` for what its tickets ask.
 //!
 //! WHAT IT DOES NOT DO
@@ -72,5 +73,7 @@ mod works;
 
 pub use board::{Board, BoardPass};
 pub use deed::Deed;
-pub use laws::{flows_keep_world, opened_is_sound, passes_tell, steps_keep_world};
+pub use laws::{
+    flows_keep_world, opened_is_sound, passes_tell, sound_rests_right, steps_keep_world,
+};
 pub use order::{Order, Told};

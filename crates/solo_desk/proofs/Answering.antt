@@ -21,32 +21,33 @@ use Rattle.call_tickets.specs.declared.answer.Ask.{Ask}
 use Rattle.call_tickets.specs.declared.answer.Ask.TheVariants.{Pending, Done}
 use Rattle.call_tickets.specs.declared.desk.DeskFault.{DeskFault}
 use Rattle.call_tickets.specs.declared.desk.DeskTicket.{DeskTicket}
-use Rattle.cluster_model.specs.Cluster.{NodeFiling}
+use Rattle.cluster_model.specs.Cluster.{NodeFiling, Ticket}
+use Rattle.joint_world.specs.World.{mail_world_of}
 use Rattle.node_store.specs.Disks.{View}
 use Rattle.node_tickets.specs.Seen.{filing_seen, progress_seen}
-use Rattle.node_tickets.specs.Standing.{filed_seen}
+use Rattle.node_tickets.specs.Standing.{filed_seen, filing_at}
 use Rattle.cluster_world.specs.Outcomes.{IsRefusal}
 use Rattle.cluster_world.specs.Steps.{IsStep}
 use Rattle.cluster_world.specs.Sure.{IsSurelyDone}
-use Rattle.cluster_world.specs.Telling.{standing_in}
-use Rattle.cluster_world.specs.Worlds.{state_of, plan_of, tells_in}
+use Rattle.cluster_world.specs.Telling.{standing_in, kind_standing}
+use Rattle.cluster_world.specs.Worlds.{state_of, plan_of, disks_tell}
 use Rattle.cluster_world.specs.declared.world.World.{World}
 use Rattle.cluster_world.specs.declared.step.Step.TheVariants as step
 use Rattle.cluster_world.specs.declared.step.Said.{Said}
 use Rattle.cluster_world.specs.declared.step.Said.TheVariants as said
 use Rattle.cluster_world.specs.declared.fault.StepFault.{StepFault}
 use Rattle.cluster_world.specs.declared.fault.StepFault.TheVariants as fault
-use Rattle.desk_model.specs.Added.{Adds, copies_filed, AreCopiesOf, AcknowledgesFor, AreForAnswer}
+use Rattle.desk_model.specs.Added.{copies_filed, AreCopiesOf, AcknowledgesFor, AreForAnswer}
 use Rattle.desk_model.specs.Growing.{AnswersInKind}
-use Rattle.desk_model.specs.Tickets.{filing_in}
+use Rattle.desk_model.specs.Tickets.{StandsUnder, filing_in}
 use Rattle.desk_model.proofs.Answered.{answers_acknowledge}
 use Rattle.solo_desk.specs.Asking.{OwnAnswer, HandsOn}
 use Rattle.desk_model.specs.Entries.{IsStoredAs, AckedBy, AsksWith}
 use Rattle.solo_desk.specs.Serving.{CanServe, AddsTo}
-use Rattle.solo_desk.specs.Standing.{fits_kind, same_filing, is_filed, may_file, is_as_begun}
+use Rattle.solo_desk.specs.Standing.{fits_kind, same_filing, is_filed, may_file, stands_as_begun}
 use Rattle.solo_desk.specs.Steps.{AsksBy, refusal_of}
 use Rattle.solo_desk.proofs.Stepping.{led, booked, idle_adds, refused_adds}
-use Rattle.solo_desk.proofs.Found.{stands_under, as_found}
+use Rattle.solo_desk.proofs.Found.{stands_there, wanted_same, IsFound, as_found}
 
 -- an answer that fits its kind
 fits_so : (kind : CallKind) (given : Answer) → fits_kind kind given ≡ true → FitsKind kind (answer_seen given)
@@ -168,16 +169,23 @@ no_acks begun answer.GoneAlready acked may fits for = for
 no_acks begun (answer.Dropped confirmers) acked may fits for = for
 no_acks begun (answer.Failed mishaps) acked may fits for = for
 
-module _ {D : Type 0} (on : View D) (ticket : DeskTicket) (old new : World D) (serves : CanServe on old) (as_begun : is_as_begun (standing_in old ticket.ticket) ticket.begun ≡ true) where
+module _ {D : Type 0} (on : View D) (ticket : DeskTicket) (old new : World D) (serves : CanServe on old) (as_begun : stands_as_begun old ticket ≡ true) where
+  found : IsFound (filing_at (standing_in old ticket.ticket)) ticket.begun
+  found = as_found (kind_standing old ticket.ticket) (filing_at (standing_in old ticket.ticket)) ticket.begun as_begun
+
+  -- what stands under its ticket among those of messages, if it stands there, filed what the call filed
+  filed_there : (one : Ticket) → StandsUnder (mail_world_of serves.whole.v).slots ticket.ticket one → filing_in one.wants ≡ filed_seen ticket.begun.filing
+  filed_there one under =
+      sym (wanted_same one.wants) ∙ ap filing_at (sym (stands_there on old (mail_world_of serves.whole.v) serves.ready serves.whole.stands.mail ticket.ticket one under))
+      ∙ filed_same (filing_at (standing_in old ticket.ticket)) ticket.begun.filing found.is
+
   -- it was answered
   answer_adds : (given : Answer) → IsStep on (Ok (said.Asked (Done given))) (step.Ask ticket.ticket) old new → AddsTo (AreForAnswer (filed_seen ticket.begun.filing) (progress_seen given)) old new
   answer_adds given is =
-      let found = as_found (standing_in old ticket.ticket) ticket.begun as_begun in
       let l = led on (Ok (said.Asked (Done given))) (step.Ask ticket.ticket) old new is (inr tt) tt serves in
-      booked on (AreForAnswer (filed_seen ticket.begun.filing) (progress_seen given)) old new serves.w l.next serves.stands l.stands
-      (subst (λ f. Adds (AreForAnswer f (progress_seen given)) serves.w.book l.next.book) (filed_same (filing_in found.ticket.wants) ticket.begun.filing found.filed)
-      (answers_acknowledge (plan_of old) (tells_in on.seen (state_of old)) serves.w l.next ticket.ticket (progress_seen given) l.made serves.tickets found.ticket
-      (stands_under on old serves.w serves.stands ticket.ticket found.ticket found.stands)))
+      booked on (AreForAnswer (filed_seen ticket.begun.filing) (progress_seen given)) old new serves.whole l.whole
+      (answers_acknowledge (plan_of old) (disks_tell on.seen old) (mail_world_of serves.whole.v) (mail_world_of l.whole.v) ticket.ticket (progress_seen given) l.seen serves.tickets
+      (filed_seen ticket.begun.filing) filed_there)
 
   own_adds : (given : Answer) (result : Result Ask DeskFault) → OwnAnswer ticket.begun.kind given result → IsStep on (Ok (said.Asked (Done given))) (step.Ask ticket.ticket) old new
       → AddsTo (AsksWith ticket.begun result) old new
@@ -191,7 +199,6 @@ module _ {D : Type 0} (on : View D) (ticket : DeskTicket) (old new : World D) (s
       }
   own_adds given (Err why) other is =
       let a = answer_adds given is in
-      let found = as_found (standing_in old ticket.ticket) ticket.begun as_begun in
       record { added = a.added; book = a.book; is = record { acked = no_acks ticket.begun given (acked_in a.added) found.may other a.is.acked; struck = a.is.struck } }
 
   pub handed_adds : (came : Result Said StepFault) (result : Result Ask DeskFault) → HandsOn ticket.begun.kind came result → IsStep on came (step.Ask ticket.ticket) old new

@@ -20,6 +20,7 @@ use Rattle.call_tickets.specs.declared.desk.DeskFault.{DeskFault}
 use Rattle.call_tickets.specs.declared.desk.DeskTicket.{DeskTicket}
 use Rattle.cluster_model.specs.Cluster.{Ticket}
 use Rattle.cluster_model.specs.Steps as steps
+use Rattle.joint_world.specs.World.{mail_world_of}
 use Rattle.node_store.specs.Disks.{View}
 use Rattle.node_core.specs.Beginning.{IsTextEnded, call_seen as machine_call}
 use Rattle.node_tickets.specs.Seen.{filing_seen}
@@ -27,7 +28,7 @@ use Rattle.node_tickets.specs.Standing.{filed_seen, filing_at}
 use Rattle.cluster_world.specs.Books.{IsLongerBook}
 use Rattle.cluster_world.specs.Steps.{IsStep}
 use Rattle.cluster_world.specs.Telling.{standing_in}
-use Rattle.cluster_world.specs.Worlds.{state_of, plan_of, book_of, tells_in}
+use Rattle.cluster_world.specs.Worlds.{plan_of, book_of, disks_tell}
 use Rattle.cluster_world.specs.declared.world.World.{World}
 use Rattle.cluster_world.specs.declared.step.Step.TheVariants as step
 use Rattle.cluster_world.specs.declared.step.Said.{Said}
@@ -38,7 +39,7 @@ use Rattle.cluster_world.proofs.SeenAlike.{made_alike}
 use Rattle.cluster_owes.proofs.Books.{acked_both, struck_both}
 use Rattle.desk_model.specs.Added.{AreQuiet, AreStrikes}
 use Rattle.desk_model.proofs.Begun.{begun_calls_strike, deliveries_file}
-use Rattle.solo_desk.specs.Beginning.{RefusedAs, FindsUnder, HandsOut}
+use Rattle.solo_desk.specs.Beginning.{RefusedAs, TicketOf, FindsFiled, FindsUnder, Takes, HandsOut}
 use Rattle.desk_model.specs.Entries.{BeginsWith}
 use Rattle.desk_model.specs.Growing.{BeginsInKind}
 use Rattle.solo_desk.specs.Kinds.{IsOfKind}
@@ -129,6 +130,35 @@ finds_kind kind (Ok (said.NodeUp boot)) world what finds = finds.0
 finds_kind kind (Ok said.Done) world what finds = finds.0
 finds_kind kind (Err why) world what finds = finds.0
 
+-- what was taken under the ticket of a call that has begun is handed out
+pub hands_taken : {D : Type 0} (on : View D) (kind : CallKind) (came : Result Said StepFault) (number : Number) (result : Result DeskTicket DeskFault) (old new : World D) → TicketOf came (Ok (Some number))
+    → Takes on kind number result old new → HandsOut on kind came result old new
+hands_taken on kind (Ok (said.Begun ticket stirs)) number (Ok given) old new same (kept, is, finds) =
+    (kept, is ∙ same, subst (λ n. FindsFiled kind (filing_at (standing_in old n)) given.begun) same finds)
+hands_taken on kind (Ok (said.Begun ticket stirs)) number (Err why) old new same given = inr ((number, same), given)
+hands_taken on kind (Ok (said.Faulted n)) number result old new same takes = absurd same
+hands_taken on kind (Ok said.Noted) number result old new same takes = absurd same
+hands_taken on kind (Ok (said.Asked ask)) number result old new same takes = absurd same
+hands_taken on kind (Ok said.Heard) number result old new same takes = absurd same
+hands_taken on kind (Ok (said.Thrown why)) number result old new same takes = absurd same
+hands_taken on kind (Ok (said.Sent letters)) number result old new same takes = absurd same
+hands_taken on kind (Ok (said.Widened did)) number result old new same takes = absurd same
+hands_taken on kind (Ok (said.Grouped epoch)) number result old new same takes = absurd same
+hands_taken on kind (Ok (said.Concluded epoch members)) number result old new same takes = absurd same
+hands_taken on kind (Ok (said.NodeUp boot)) number result old new same takes = absurd same
+hands_taken on kind (Ok said.Done) number result old new same takes = absurd same
+hands_taken on kind (Err (fault.NoMemory (Some n))) number result old new same takes = absurd same
+hands_taken on kind (Err (fault.NoMemory None)) number result old new same takes = absurd same
+hands_taken on kind (Err fault.NoSuchNode) number result old new same takes = absurd same
+hands_taken on kind (Err fault.NodeLost) number result old new same takes = absurd same
+hands_taken on kind (Err fault.NodeDown) number result old new same takes = absurd same
+hands_taken on kind (Err fault.NodeUp) number result old new same takes = absurd same
+hands_taken on kind (Err fault.NoSuchLetter) number result old new same takes = absurd same
+hands_taken on kind (Err fault.NoSuchTicket) number result old new same takes = absurd same
+hands_taken on kind (Err fault.NotAGroup) number result old new same takes = absurd same
+hands_taken on kind (Err fault.Worn) number result old new same takes = absurd same
+hands_taken on kind (Err fault.NoRoom) number result old new same takes = absurd same
+
 module _ {D : Type 0} (on : View D) where
   -- it strikes what it is to delete
   begins_adds : (came : Result Said StepFault) (node : ℕ) (begun : Call) (asked : model.Call) (number : Number) (old new : World D) → call_seen begun ≡ Some asked → IsTextEnded (machine_call begun)
@@ -138,13 +168,13 @@ module _ {D : Type 0} (on : View D) where
       by : (came : Result Said StepFault) → BeginsAs came number → IsStep on came (step.Begin node begun) old new → AddsTo (AreStrikes (struck_by asked)) old new
       by (Ok (said.Begun ticket stirs)) so is =
           let l = led on (Ok (said.Begun ticket stirs)) (step.Begin node begun) old new is (inr tt) ended serves in
-          booked on (AreStrikes (struck_by asked)) old new serves.w l.next serves.stands l.stands
-          ((begun_calls_strike (plan_of old) (tells_in on.seen (state_of old)) serves.w l.next node (machine_call begun) asked (made_alike begun ∙ seen)).0 ticket l.made)
+          booked on (AreStrikes (struck_by asked)) old new serves.whole l.whole
+          ((begun_calls_strike (plan_of old) (disks_tell on.seen old) (mail_world_of serves.whole.v) (mail_world_of l.whole.v) node (machine_call begun) asked (made_alike begun ∙ seen)).0 ticket l.seen)
       by (Ok (said.Faulted n)) so is =
           let l = led on (Ok (said.Faulted n)) (step.Begin node begun) old new is (inr tt) ended serves in
-          booked on (AreStrikes (struck_by asked)) old new serves.w l.next serves.stands l.stands
-          ((begun_calls_strike (plan_of old) (tells_in on.seen (state_of old)) serves.w l.next node (machine_call begun) asked (made_alike begun ∙ seen)).1
-          (steps.StepOutcome.Says (steps.Said.Faulted n)) tt l.made)
+          booked on (AreStrikes (struck_by asked)) old new serves.whole l.whole
+          ((begun_calls_strike (plan_of old) (disks_tell on.seen old) (mail_world_of serves.whole.v) (mail_world_of l.whole.v) node (machine_call begun) asked (made_alike begun ∙ seen)).1
+          (steps.StepOutcome.Says (steps.Said.Faulted n)) tt l.seen)
       by (Ok said.Noted) so is = absurd so
       by (Ok (said.Asked ask)) so is = absurd so
       by (Ok said.Heard) so is = absurd so
@@ -157,9 +187,9 @@ module _ {D : Type 0} (on : View D) where
       by (Ok said.Done) so is = absurd so
       by (Err (fault.NoMemory (Some n))) so is =
           let l = led on (Err (fault.NoMemory (Some n))) (step.Begin node begun) old new is (inr tt) ended serves in
-          booked on (AreStrikes (struck_by asked)) old new serves.w l.next serves.stands l.stands
-          ((begun_calls_strike (plan_of old) (tells_in on.seen (state_of old)) serves.w l.next node (machine_call begun) asked (made_alike begun ∙ seen)).1
-          (steps.StepOutcome.NoMemory (Some n)) tt l.made)
+          booked on (AreStrikes (struck_by asked)) old new serves.whole l.whole
+          ((begun_calls_strike (plan_of old) (disks_tell on.seen old) (mail_world_of serves.whole.v) (mail_world_of l.whole.v) node (machine_call begun) asked (made_alike begun ∙ seen)).1
+          (steps.StepOutcome.NoMemory (Some n)) tt l.seen)
       by (Err (fault.NoMemory None)) so is = absurd so
       by (Err fault.NoSuchNode) so is = absurd so
       by (Err fault.NodeLost) so is = absurd so
@@ -182,7 +212,7 @@ module _ {D : Type 0} (on : View D) where
       by None stands f = absurd (let never : Some (filing_seen filing) ≡ None = f in cc)
       by (Some one) stands f =
           let l = led on (Ok (said.Begun ticket stirs)) (step.Begin node (call.Deliver deliver)) old new is (inr tt) ended serves in
-          let filed = deliveries_file (plan_of old) (tells_in on.seen (state_of old)) serves.w l.next node (mail_in deliver) ticket l.made one (stands_under on new l.next l.stands ticket one stands)
+          let filed = deliveries_file (plan_of old) (disks_tell on.seen old) (mail_world_of serves.whole.v) (mail_world_of l.whole.v) node (mail_in deliver) ticket l.seen one (stands_under on new (mail_world_of l.whole.v) l.whole.stands.mail ticket one stands)
           (filing_seen filing) (sym (wanted_same one.wants) ∙ sym f) in
           record { octets = filed.octets; stored = filed.stored; users = filed.users; size = filed.size; digest = filed.digest }
 

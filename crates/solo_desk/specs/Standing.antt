@@ -9,9 +9,12 @@ use Rattle.mail_base.specs.declared.filing.CallKind.{CallKind}
 use Rattle.mail_base.specs.declared.filing.CallKind.TheVariants.{Deliver, Login, Fetch, Strike}
 use Rattle.call_tickets.specs.declared.answer.Answer.{Answer}
 use Rattle.call_tickets.specs.declared.answer.Answer.TheVariants as answer
-use Rattle.cluster_model.specs.Cluster.{NodeFiling, Ticket}
+use Rattle.call_tickets.specs.declared.desk.DeskTicket.{DeskTicket}
+use Rattle.cluster_model.specs.Cluster.{NodeFiling}
 use Rattle.cluster_model.specs.Cluster as plain
-use Rattle.node_tickets.specs.Standing.{kind_of_ticket, filing_at}
+use Rattle.node_tickets.specs.Standing.{filing_at}
+use Rattle.cluster_world.specs.Telling.{standing_in, kind_standing}
+use Rattle.cluster_world.specs.declared.world.World.{World}
 
 -- the kind that stands there is this
 abbrev pub is_kind : Option plain.CallKind → CallKind → Bool
@@ -38,9 +41,13 @@ may_file Deliver filing = true
 may_file kind None = true
 may_file kind (Some filing) = false
 
--- what stands there is what was begun
-abbrev pub is_as_begun : Option Ticket → Begun → Bool
-is_as_begun found begun = is_kind (kind_of_ticket found) begun.kind && is_filed (filing_at found) begun.filing && may_file begun.kind begun.filing
+-- what stands there, a call of this kind that filed this, is what was begun
+abbrev pub is_as_begun : Option plain.CallKind → Option NodeFiling → Begun → Bool
+is_as_begun kind filed begun = is_kind kind begun.kind && is_filed filed begun.filing && may_file begun.kind begun.filing
+
+-- whether so it is of what stands under the ticket in a world
+abbrev pub stands_as_begun : {D : Type 0} → World D → DeskTicket → Bool
+stands_as_begun world ticket = is_as_begun (kind_standing world ticket.ticket) (filing_at (standing_in world ticket.ticket)) ticket.begun
 
 -- the answer is one to a call of this kind; each may fail
 abbrev pub fits_kind : CallKind → Answer → Bool

@@ -11,7 +11,6 @@ use Rattle.call_tickets.specs.declared.desk.Posted.TheVariants.{Did, Quiet}
 use Rattle.node_store.specs.Disks.{View}
 use Rattle.cluster_world.specs.Flights.{first_number}
 use Rattle.cluster_world.specs.Steps.{IsStep}
-use Rattle.cluster_world.specs.Telling.{standing_in}
 use Rattle.cluster_world.specs.Worlds.{state_of}
 use Rattle.cluster_world.specs.declared.world.World.{World}
 use Rattle.cluster_world.specs.declared.step.Step.TheVariants as step
@@ -19,7 +18,7 @@ use Rattle.cluster_world.specs.declared.step.Said.{Said}
 use Rattle.cluster_world.specs.declared.step.Said.TheVariants as said
 use Rattle.cluster_world.specs.declared.fault.StepFault.{StepFault}
 use Rattle.cluster_world.specs.declared.fault.StepFault.TheVariants as fault
-use Rattle.solo_desk.specs.Standing.{is_as_begun}
+use Rattle.solo_desk.specs.Standing.{stands_as_begun}
 
 -- what a desk says of a step that was refused
 abbrev pub refusal_of : StepFault → DeskFault
@@ -60,7 +59,7 @@ AsksBy on ticket (Err why) old new = ⊤
 -- A call that stands is given up. One that stands no more is passed over, and so is one whose step is refused since it stands no more.
 abbrev pub GivesUpBy : {D : Type 0} → View D → DeskTicket → Result (Unit {0}) DeskFault → World D → World D → Type 0
 GivesUpBy on ticket (Ok done) old new =
-    ((is_as_begun (standing_in old ticket.ticket) ticket.begun ≡ false) × (new ≡ old))
+    ((stands_as_begun old ticket ≡ false) × (new ≡ old))
     ⊎ IsStep on (Ok said.Done) (step.GiveUp ticket.ticket) old new
     ⊎ ((why : StepFault) × (refusal_of why ≡ Down) × IsStep on (Err why) (step.GiveUp ticket.ticket) old new)
 GivesUpBy on ticket (Err why) old new = ⊤

@@ -19,7 +19,7 @@
 //! - `post_one` posts the letter of the lowest number in flight, and makes no other step. A push among several nodes reads a
 //!   disk, and of a disk that tells nothing the contract of that step says nothing of the machine.
 //!
-//! A desk can be over a world that stands for a sound one of the machine of `cluster_model`, in which each ticket asks for one
+//! A desk can be over a world that stands for a sound one of the whole machine, in which each ticket of messages asks for one
 //! thing (`CanServe` in `specs/Serving`). That is so of a world that was opened, and each step keeps it that is known
 //! (`specs/Laws`). The calls over a world ask less, that it can make steps: then they say which step they made, that the book only
 //! grows, and that a call and an answer are of their kind. What was added to the book they say where the world was sound, and then
@@ -30,7 +30,7 @@
 //! DIAGNOSTICS
 //!
 //! `Down` is said of a node that is not up, and of a ticket that stands no more; `Worn` where a number is used up; both are
-//! counted. Want of memory is said as it is, and so is a call that has no rule: a POP3 session's in a plan of several nodes.
+//! counted. Want of memory is said as it is.
 //!
 //! COSTS
 //!

@@ -3,9 +3,8 @@ ghost use Rattle.std.specs.Prelude.{◌≡◌, Some};
 ghost use Rattle.std.specs.Option.{option_copied};
 ghost use Rattle.node_tickets.specs.Seen.{filing_seen};
 ghost use Rattle.node_tickets.specs.Standing.{call_kind_seen, filed_seen};
-ghost use Rattle.cluster_world.specs.Telling.{standing_in};
 ghost use Rattle.cluster_world.specs.Worlds.{CanMakeSteps};
-ghost use Rattle.solo_desk.specs.Standing.{is_kind, same_filing, is_filed, may_file, is_as_begun};
+ghost use Rattle.solo_desk.specs.Standing.{is_kind, same_filing, is_filed, may_file, stands_as_begun};
 
 use call_tickets::DeskTicket;
 use cluster_world::World;
@@ -59,7 +58,7 @@ fn may_file(begun: &Begun) -> bool
 /// Whether what stands under the ticket is what its beginning found. Whoever asks may hold any ticket.
 pub(crate) fn stands_as_begun<D: Disk>(world: &World<D>, ticket: &DeskTicket) -> bool
     requires { CanMakeSteps D.seen world.now }
-    ensures { result ≡ is_as_begun (standing_in world.now ticket.now.ticket) ticket.now.begun }
+    ensures { result ≡ stands_as_begun world.now ticket.now }
 {
     is_kind(world.kind(&ticket.ticket), ticket.begun.kind)
         && is_filed(world.filing(&ticket.ticket), &ticket.begun.filing)

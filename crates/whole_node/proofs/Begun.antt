@@ -5,7 +5,7 @@ use Rattle.std.proofs.lemmas.List.Elements.{All-nil}
 use Rattle.std.specs.Cmp.{nat_cmp_total}
 use Rattle.std.specs.FinMap as fin
 use Rattle.std.proofs.lemmas.Map.Lookups.{exact_unsigned}
-use Rattle.mail_model.specs.Plan.{Plan, Users}
+use Rattle.mail_model.specs.Plan.{Plan}
 use Rattle.mail_model.specs.Told.{Mail}
 use Rattle.mail_model.specs.Record.{Record}
 use Rattle.object_model.specs.Sets.{has, one_node}
@@ -15,7 +15,6 @@ use Rattle.object_model.proofs.SetLaws.{one_has}
 use Rattle.object_model.proofs.MapLaws.{written}
 use Rattle.cluster_model.specs.Cluster as plain
 use Rattle.sha2.specs.Sha256.{sha256}
-use Rattle.cluster_model.specs.Reads.{Found}
 use Rattle.cluster_model.specs.Makes.{begun_by, asked_for, targets_for, IsFiled}
 use Rattle.cluster_model.specs.Rules as rules
 use Rattle.cluster_model.specs.Rules.{new_number}
@@ -29,22 +28,25 @@ use Rattle.node_core.proofs.Going.{beginning_goes_on}
 use Rattle.node_core.specs.Standing.{ticket_standing}
 use Rattle.node_core.specs.Works.{NodeDid, LeavesUp}
 use Rattle.node_core.specs.Beginning.{at_second, IsTextEnded, CallDid, CallBegun, CallStopped, NodeBegins}
-use Rattle.node_core.specs.Beginning.CallDid.{AtOnce, Goes, Reads, Leaves}
+use Rattle.node_core.specs.Beginning.CallDid.{AtOnce, Goes}
 use Rattle.node_core.specs.declared.fault.NodeFault.{NodeFault}
 use Rattle.node_core.specs.declared.fault.NodeFault.TheVariants.{Disk, Worn, NoMemory}
 use Rattle.node_core.specs.declared.outbox.Outbox.{Outbox}
 use Rattle.node_core.specs.declared.node.Node.{Node}
 use Rattle.node_maps.specs.Nodes.{own_of}
-use Rattle.whole_node.specs.Nodes.{HasMaps, WholeWorks}
+use Rattle.joint_model.specs.Joint.Life.{Up}
+use Rattle.joint_world.specs.Staying.{KeepsReads}
+use Rattle.whole_node.specs.Nodes.{joint_seen, HasMaps, KeepsBeside, WholeWorks}
 use Rattle.whole_node.specs.Noting.{Copy, NotesCopies, copies_confirmed, NotesBegun, WantsSome}
-use Rattle.whole_node.specs.Following.{MapsFollow, MapsStay, FilesNothing, CallFollowed, FollowsCall}
+use Rattle.whole_node.specs.Following.{MapsFollow, MapsStay, CallFollowed, FollowsCall}
 use Rattle.whole_node.specs.declared.node.WholeNode.{WholeNode}
 use Rattle.whole_node.proofs.Led.{led_none}
 use Rattle.whole_node.proofs.Taking.{Leads, leads_none}
 use Rattle.whole_node.proofs.Ruled.{leads_delivered, leads_deleted}
 use Rattle.whole_node.specs.Hearing.{FitsMaps}
 use Rattle.whole_node.proofs.Mailing.{begins_mail}
-use Rattle.whole_node.proofs.Called.{plan_for, is_for, has_users, same_own, done_stops, knows_any, follows_led, has_after, has_same}
+use Rattle.whole_node.proofs.Beside.{Outlasts, works_on, beside_on}
+use Rattle.whole_node.proofs.Called.{plan_of, is_of, done_stops, knows_any, follows_led, outlasts_after, outlasts_same}
 
 -- the own node is one of itself
 own_in : (own nodes : ℕ) → 0 < own → own ≤ nodes → nodes ≤ 16 → has (one_node own) own ≡ true
@@ -92,7 +94,7 @@ module _ {D : Type 0} (on : View D) (plan : Plan) (own seconds : ℕ) (old : Who
       let node = node_seen old.mail in
       let targets = targets_for plan own node in
       let filing : plain.NodeFiling = record { id = record { node = own; boot = node.boot; seq = node.drawn + 1 }; users = mail.mailboxes; seconds = seconds; size = length octets; digest = sha256 octets } in
-      let ticket : plain.Ticket = record { kind = plain.CallKind.Delivering; wants = rules.new_want own (plain.AskedOfNodes.Copies filing) targets ∷ []; mishaps = no_mishaps; found = None } in
+      let ticket : plain.Ticket = record { kind = plain.CallKind.Delivering; wants = rules.new_want own (plain.AskedOfNodes.Copies filing) targets ∷ []; mishaps = no_mishaps } in
       let are = wants_of (λ node disk. begun_by plan (at_second seconds) own node disk (Deliver mail) octets) sent ticket d refl in
       let n = noted_as (new_number own node) ticket.wants (d.same plan own is).own_is are notes (records ++ d.added) (d.keeps records keeps) in
       subst (λ (k : ℕ). Leads k records (begun_by plan (at_second seconds) own node records (Deliver mail) octets).disk old.maps new.maps) (sym here)
@@ -110,7 +112,6 @@ module _ {D : Type 0} (on : View D) (plan : Plan) (own seconds : ℕ) (old : Who
         kind = plain.CallKind.Striking;
         wants = map (λ (item : rules.StrikeItem). rules.new_want own (plain.AskedOfNodes.Deletion user item.mark.id) item.asks) (rules.dated own node node.count asked);
         mishaps = no_mishaps;
-        found = None;
       } in
       let are = wants_of (λ node disk. begun_by plan (at_second seconds) own node disk (Strike user items) octets) sent ticket d refl in
       let n = noted_as (new_number own node) ticket.wants (d.same plan own is).own_is are notes (records ++ d.added) (d.keeps records keeps) in
@@ -125,87 +126,62 @@ module _ {D : Type 0} (on : View D) (plan : Plan) (own seconds : ℕ) (old : Who
   some_is : (a b : Number) → Some a ≡ Some b → a ≡ b
   some_is a b e = cc
 
-  no_ticket : (a : Number) → Some a ≡ None → ⊥
-  no_ticket a e = cc
+  none_some : (a : Number) → None ≡ Some a → ⊥
+  none_some a e = cc
 
-  never_filed : (call : NodeCall) (octets : List ℕ) → FilesNothing call → IsFiled (at_second seconds) own (node_seen old.mail) call octets → ⊥
-  never_filed (Deliver mail) octets quiet filed = quiet
-  never_filed (Login user proof) octets quiet filed = filed
-  never_filed (Fetch user id from most) octets quiet filed = filed
-  never_filed (Strike user items) octets quiet filed = quiet
-  never_filed (Leave user) octets quiet filed = filed
-
-  led_by : (call : NodeCall) (octets : List ℕ) (sent : List Letter) → NodeDid on (λ node disk. begun_by plan (at_second seconds) own node disk call octets) old.mail before new.mail after sent
-      → NotesUnder (new_number own (node_seen old.mail)) → (FilesNothing call → new.maps ≡ old.maps) → (records : List Record) → NodeKeeps records old.mail
+  led_by : (call : NodeCall) (octets those : List ℕ) (sent : List Letter) → IsFiled (at_second seconds) own (node_seen old.mail) call those
+      → NodeDid on (λ node disk. begun_by plan (at_second seconds) own node disk call octets) old.mail before new.mail after sent
+      → NotesUnder (new_number own (node_seen old.mail)) → (records : List Record) → NodeKeeps records old.mail
       → Leads (own_of old.maps) records (begun_by plan (at_second seconds) own (node_seen old.mail) records call octets).disk old.maps new.maps
-  led_by (Deliver mail) octets sent d notes same = delivery_leads mail octets sent d notes
-  led_by (Login user proof) octets sent d notes same = idle_leads (same tt)
-  led_by (Fetch user id from most) octets sent d notes same = idle_leads (same tt)
-  led_by (Strike user items) octets sent d notes same = deletion_leads user items octets sent d notes
-  led_by (Leave user) octets sent d notes same = idle_leads (same tt)
+  led_by (Deliver mail) octets those sent filed d notes = delivery_leads mail octets sent d notes
+  led_by (Strike user items) octets those sent filed d notes = deletion_leads user items octets sent d notes
+  led_by (Login user proof) octets those sent filed d notes = absurd filed
+  led_by (Fetch user id from most holders) octets those sent filed d notes = absurd filed
+  led_by (Leave user login manager) octets those sent filed d notes = absurd filed
 
   module _ (call : NodeCall) where
     abbrev begun : List ℕ → plain.Node → List Record → rules.Reaction
     begun octets node disk = begun_by plan (at_second seconds) own node disk call octets
 
+    abbrev refusing : plain.CallKind → plain.Node → List Record → rules.Reaction
+    refusing kind = rules.refuse kind (mishaps_of_call plan seconds (node_seen old.mail) call) (ids_drawn call)
+
     abbrev Did : Option Number → List Letter → Type 0
     Did ticket sent = CallDid on plan own seconds call old.mail before new.mail after ticket sent
 
-    refused : (kind : plain.CallKind) (sent : List Letter) → NodeDid on (rules.refuse kind (mishaps_of_call plan seconds (node_seen old.mail) call) (ids_drawn call)) old.mail before new.mail after sent
+    refused : (kind : plain.CallKind) (sent : List Letter) → NodeDid on (refusing kind) old.mail before new.mail after sent
         → wants_at (ticket_standing new.mail (new_number own (node_seen old.mail))) ≡ []
-    refused kind sent d = wants_of (rules.refuse kind (mishaps_of_call plan seconds (node_seen old.mail) call) (ids_drawn call)) sent
-        (record { kind = kind; wants = []; mishaps = mishaps_of_call plan seconds (node_seen old.mail) call; found = None }) d refl
-
-    read : (kind : plain.CallKind) (found : Found) (sent : List Letter) → NodeDid on (rules.begin_read kind found) old.mail before new.mail after sent
-        → wants_at (ticket_standing new.mail (new_number own (node_seen old.mail))) ≡ []
-    read kind found sent d = wants_of (rules.begin_read kind found) sent (record { kind = kind; wants = []; mishaps = no_mishaps; found = Some found }) d refl
+    refused kind sent d = wants_of (refusing kind) sent (record { kind = kind; wants = []; mishaps = mishaps_of_call plan seconds (node_seen old.mail) call }) d refl
 
     -- where the ticket wants nothing, nothing was noted
-    unchanged : (rule : plain.Node → List Record → rules.Reaction) (sent : List Letter) → NodeDid on rule old.mail before new.mail after sent
-        → wants_at (ticket_standing new.mail (new_number own (node_seen old.mail))) ≡ [] → NotesUnder (new_number own (node_seen old.mail)) → new.maps ≡ old.maps
-    unchanged rule sent d none notes = noted_as (new_number own (node_seen old.mail)) [] (d.same plan own is).own_is none notes (holds.records ++ d.added) (d.keeps holds.records holds.keeps)
+    unchanged : (kind : plain.CallKind) (sent : List Letter) → NodeDid on (refusing kind) old.mail before new.mail after sent → NotesUnder (new_number own (node_seen old.mail)) → new.maps ≡ old.maps
+    unchanged kind sent d notes = noted_as (new_number own (node_seen old.mail)) [] (d.same plan own is).own_is (refused kind sent d) notes (holds.records ++ d.added) (d.keeps holds.records holds.keeps)
+
+    under_it : (ticket : Option Number) (number : Number) → ticket ≡ Some (new_number own (node_seen old.mail)) → ticket ≡ Some number → NotesUnder number → NotesUnder (new_number own (node_seen old.mail))
+    under_it ticket number ticket_is it notes = subst NotesUnder (some_is number (new_number own (node_seen old.mail)) (sym it ∙ ticket_is)) notes
 
     pub noted_follows : (ticket : Option Number) (number : Number) (sent : List Letter) → Did ticket sent → ticket ≡ Some number → NotesUnder number → CallFollowed on plan own seconds call old before new after
-    noted_follows ticket number sent (AtOnce kind kind_is fails ticket_is d) it notes =
-        let n = subst NotesUnder (some_is number (new_number own (node_seen old.mail)) (sym it ∙ ticket_is)) notes in
-        record {
-          at_once = λ f. unchanged (rules.refuse kind (mishaps_of_call plan seconds (node_seen old.mail) call) (ids_drawn call)) sent d (refused kind sent d) n;
-          reads = λ quiet. unchanged (rules.refuse kind (mishaps_of_call plan seconds (node_seen old.mail) call) (ids_drawn call)) sent d (refused kind sent d) n;
-          goes = λ g octets out e. absurd (true≢false (sym fails ∙ g));
-        }
-    noted_follows ticket number sent (Goes octets goes filed ticket_is d) it notes =
-        let n = subst NotesUnder (some_is number (new_number own (node_seen old.mail)) (sym it ∙ ticket_is)) notes in
-        record {
-          at_once = λ f. absurd (true≢false (sym f ∙ goes));
-          reads = λ quiet. absurd (never_filed call octets quiet filed);
-          goes = λ g o out e. follows_led old holds (begun o) new (led_by call o out e n (λ quiet. absurd (never_filed call octets quiet filed)));
-        }
-    noted_follows ticket number sent (Reads kind found kind_is goes those ticket_is d) it notes =
-        let n = subst NotesUnder (some_is number (new_number own (node_seen old.mail)) (sym it ∙ ticket_is)) notes in
-        let same = unchanged (rules.begin_read kind found) sent d (read kind found sent d) n in
-        record { at_once = λ f. same; reads = λ quiet. same; goes = λ g o out e. follows_led old holds (begun o) new (led_by call o out e n (λ quiet. same)) }
-    noted_follows ticket number sent (Leaves user is_leave none none_sent as_before untouched) it notes = absurd (no_ticket number (sym it ∙ none))
+    noted_follows ticket number sent (AtOnce kind kind_is fails ticket_is d) it notes = record {
+      at_once = λ f. unchanged kind sent d (under_it ticket number ticket_is it notes);
+      goes = λ g octets out e. absurd (true≢false (sym fails ∙ g));
+    }
+    noted_follows ticket number sent (Goes octets goes filed ticket_is d) it notes = record {
+      at_once = λ f. absurd (true≢false (sym f ∙ goes));
+      goes = λ g o out e. follows_led old holds (begun o) new (led_by call o octets out filed e (under_it ticket number ticket_is it notes));
+    }
 
-    pub noted_has : (ticket : Option Number) (number : Number) (sent : List Letter) → Did ticket sent → ticket ≡ Some number → NotesUnder number → HasMaps new
+    pub noted_has : (ticket : Option Number) (number : Number) (sent : List Letter) → Did ticket sent → ticket ≡ Some number → NotesUnder number → Outlasts old new
     noted_has ticket number sent (AtOnce kind kind_is fails ticket_is d) it notes =
-        let n = subst NotesUnder (some_is number (new_number own (node_seen old.mail)) (sym it ∙ ticket_is)) notes in
-        has_after old holds on (rules.refuse kind (mishaps_of_call plan seconds (node_seen old.mail) call) (ids_drawn call)) before new after sent d (λ records. refl)
-        (idle_leads (unchanged (rules.refuse kind (mishaps_of_call plan seconds (node_seen old.mail) call) (ids_drawn call)) sent d (refused kind sent d) n))
+        outlasts_after old holds on (refusing kind) before new after sent d (λ records. refl) (idle_leads (unchanged kind sent d (under_it ticket number ticket_is it notes)))
     noted_has ticket number sent (Goes octets goes filed ticket_is d) it notes =
-        let n = subst NotesUnder (some_is number (new_number own (node_seen old.mail)) (sym it ∙ ticket_is)) notes in
-        has_after old holds on (begun octets) before new after sent d (λ records. (begins_mail plan (at_second seconds) own (node_seen old.mail) records call octets).epoch) (led_by call octets sent d n (λ quiet. absurd (never_filed call octets quiet filed)))
-    noted_has ticket number sent (Reads kind found kind_is goes those ticket_is d) it notes =
-        let n = subst NotesUnder (some_is number (new_number own (node_seen old.mail)) (sym it ∙ ticket_is)) notes in
-        has_after old holds on (rules.begin_read kind found) before new after sent d (λ records. refl) (idle_leads (unchanged (rules.begin_read kind found) sent d (read kind found sent d) n))
-    noted_has ticket number sent (Leaves user is_leave none none_sent as_before untouched) it notes = absurd (no_ticket number (sym it ∙ none))
+        outlasts_after old holds on (begun octets) before new after sent d (λ records. (begins_mail plan (at_second seconds) own (node_seen old.mail) records call octets).epoch)
+        (led_by call octets octets sent filed d (under_it ticket number ticket_is it notes))
 
     -- whatever it sends fits
     begun_fits_by : (ticket : Option Number) (sent : List Letter) → Did ticket sent → All FitsMaps sent
     begun_fits_by ticket sent (AtOnce kind kind_is fails ticket_is d) = subst (All FitsMaps) (d.out holds.records holds.keeps) (All-nil FitsMaps)
     begun_fits_by ticket sent (Goes octets goes filed ticket_is d) =
         subst (All FitsMaps) (d.out holds.records holds.keeps) (begins_mail plan (at_second seconds) own (node_seen old.mail) holds.records call octets).fits
-    begun_fits_by ticket sent (Reads kind found kind_is goes those ticket_is d) = subst (All FitsMaps) (d.out holds.records holds.keeps) (All-nil FitsMaps)
-    begun_fits_by ticket sent (Leaves user is_leave none none_sent as_before untouched) = subst (All FitsMaps) (sym none_sent) (All-nil FitsMaps)
 
     -- memory ran out as its copies were noted
     pub noting_stops : (ticket : Option Number) (number : Number) (sent : List Letter) → is_worn_for plan seconds (node_seen old.mail) call ≡ false → Did ticket sent → ticket ≡ Some number
@@ -215,30 +191,11 @@ module _ {D : Type 0} (on : View D) (plan : Plan) (own seconds : ℕ) (old : Who
     noting_stops ticket number sent fresh (Goes octets goes filed ticket_is d) it some =
         let s = done_stops on (begun octets) old.mail before new.mail after sent d in
         record { fresh = fresh; octets = octets; filed = filed; stopped = s.0; fails = s.1 }
-    noting_stops ticket number sent fresh (Reads kind found kind_is goes those ticket_is d) it some =
-        absurd (some (subst (λ (k : Number). wants_at (ticket_standing new.mail k) ≡ []) (sym (some_is number (new_number own (node_seen old.mail)) (sym it ∙ ticket_is))) (read kind found sent d)))
-    noting_stops ticket number sent fresh (Leaves user is_leave none none_sent as_before untouched) it some = absurd (no_ticket number (sym it ∙ none))
 
-    none_some : (a : Number) → None ≡ Some a → ⊥
-    none_some a e = cc
-
-    -- a call without a ticket
-    pub ticketless_follows : (ticket : Option Number) (sent : List Letter) → Did ticket sent → ticket ≡ None → new.maps ≡ old.maps → CallFollowed on plan own seconds call old before new after
-    ticketless_follows ticket sent (AtOnce kind kind_is fails ticket_is d) it maps = absurd (none_some _ (sym it ∙ ticket_is))
-    ticketless_follows ticket sent (Goes octets goes filed ticket_is d) it maps = absurd (none_some _ (sym it ∙ ticket_is))
-    ticketless_follows ticket sent (Reads kind found kind_is goes those ticket_is d) it maps = absurd (none_some _ (sym it ∙ ticket_is))
-    ticketless_follows ticket sent (Leaves user is_leave none none_sent as_before untouched) it maps = record {
-      at_once = λ f. maps;
-      reads = λ quiet. maps;
-      goes = λ g o out e. follows_led old holds (begun o) new
-          (λ records keeps. subst (λ (c : NodeCall). Leads (own_of old.maps) records (begun_by plan (at_second seconds) own (node_seen old.mail) records c o).disk old.maps new.maps) (sym is_leave) (idle_leads maps records keeps));
-    }
-
-    pub ticketless_has : (ticket : Option Number) (sent : List Letter) → Did ticket sent → ticket ≡ None → new.maps ≡ old.maps → HasMaps new
-    ticketless_has ticket sent (AtOnce kind kind_is fails ticket_is d) it maps = absurd (none_some _ (sym it ∙ ticket_is))
-    ticketless_has ticket sent (Goes octets goes filed ticket_is d) it maps = absurd (none_some _ (sym it ∙ ticket_is))
-    ticketless_has ticket sent (Reads kind found kind_is goes those ticket_is d) it maps = absurd (none_some _ (sym it ∙ ticket_is))
-    ticketless_has ticket sent (Leaves user is_leave none none_sent as_before untouched) it maps = has_same old holds new as_before.same (ap (λ (n : plain.Node). n.boot) as_before.seen) (ap (λ (n : plain.Node). n.installed) as_before.seen) as_before.keeps maps
+    -- each such call has a ticket
+    never_ticketless : (ticket : Option Number) (sent : List Letter) → Did ticket sent → ticket ≡ None → ⊥
+    never_ticketless ticket sent (AtOnce kind kind_is fails ticket_is d) it = none_some (new_number own (node_seen old.mail)) (sym it ∙ ticket_is)
+    never_ticketless ticket sent (Goes octets goes filed ticket_is d) it = none_some (new_number own (node_seen old.mail)) (sym it ∙ ticket_is)
 
     -- its work failed
     pub failed_follows : (fault : NodeFault) → new.maps ≡ old.maps → FollowsCall on plan own seconds call (Err fault) old before new after
@@ -247,20 +204,20 @@ module _ {D : Type 0} (on : View D) (plan : Plan) (own seconds : ℕ) (old : Who
     failed_follows (NoMemory true) maps = tt
     failed_follows (NoMemory false) maps = maps
 
-    pub failed_has : (fault : NodeFault) → NodeBegins on plan own seconds call old.mail before new.mail after (Err fault) → new.maps ≡ old.maps → LeavesUp {T = Option Number × Outbox} (Err fault) → HasMaps new
+    pub failed_has : (fault : NodeFault) → NodeBegins on plan own seconds call old.mail before new.mail after (Err fault) → new.maps ≡ old.maps → LeavesUp {T = Option Number × Outbox} (Err fault) → Outlasts old new
     failed_has Disk begins maps up = absurd up
-    failed_has Worn begins maps up = has_same old holds new begins.1.same (ap (λ (n : plain.Node). n.boot) begins.1.seen) (ap (λ (n : plain.Node). n.installed) begins.1.seen) begins.1.keeps maps
+    failed_has Worn begins maps up = outlasts_same old holds new begins.1.same (ap (λ (n : plain.Node). n.boot) begins.1.seen) (ap (λ (n : plain.Node). n.installed) begins.1.seen) begins.1.keeps maps
     failed_has (NoMemory true) begins maps up = absurd up
-    failed_has (NoMemory false) begins maps up = has_same old holds new begins.0.same (ap (λ (n : plain.Node). n.boot) begins.0.seen) (ap (λ (n : plain.Node). n.installed) begins.0.seen) begins.0.keeps maps
+    failed_has (NoMemory false) begins maps up = outlasts_same old holds new begins.0.same (ap (λ (n : plain.Node). n.boot) begins.0.seen) (ap (λ (n : plain.Node). n.installed) begins.0.seen) begins.0.keeps maps
 
     -- so whatever was begun
     pub begun_follows : (ticket : Option Number) (outbox : Outbox) → CallBegun on plan own seconds call old.mail before new.mail after ticket outbox → NotesBegun ticket new.mail old.maps new.maps
         → CallFollowed on plan own seconds call old before new after
-    begun_follows None outbox b maps = ticketless_follows None outbox.letters b.did refl maps
+    begun_follows None outbox b maps = absurd (never_ticketless None outbox.letters b.did refl)
     begun_follows (Some number) outbox b notes = noted_follows (Some number) number outbox.letters b.did refl notes
 
-    pub begun_has : (ticket : Option Number) (outbox : Outbox) → CallBegun on plan own seconds call old.mail before new.mail after ticket outbox → NotesBegun ticket new.mail old.maps new.maps → HasMaps new
-    begun_has None outbox b maps = ticketless_has None outbox.letters b.did refl maps
+    pub begun_has : (ticket : Option Number) (outbox : Outbox) → CallBegun on plan own seconds call old.mail before new.mail after ticket outbox → NotesBegun ticket new.mail old.maps new.maps → Outlasts old new
+    begun_has None outbox b maps = absurd (never_ticketless None outbox.letters b.did refl)
     begun_has (Some number) outbox b notes = noted_has (Some number) number outbox.letters b.did refl notes
 
     pub begun_fits : (ticket : Option Number) (outbox : Outbox) → CallBegun on plan own seconds call old.mail before new.mail after ticket outbox → All FitsMaps outbox.letters
@@ -272,28 +229,33 @@ module _ {D : Type 0} (on : View D) (plan : Plan) (own seconds : ℕ) (old : Who
     begun_stops (Some number) outbox b some = noting_stops (Some number) number outbox.letters b.fresh b.did refl some
 
 -- the node goes on, if it may
-module _ {D : Type 0} (on : View D) (users : Users) (seconds : ℕ) (old : WholeNode) (before : D) (new : WholeNode) (after : D) (works : WholeWorks (on.seen before) old) (call : NodeCall) (ended : IsTextEnded call) where
+module _ {D : Type 0} (on : View D) (seconds : ℕ) (old : WholeNode) (before : D) (new : WholeNode) (after : D) (works : WholeWorks (on.seen before) old) (kept : KeepsBeside old new) (call : NodeCall) (ended : IsTextEnded call) where
   abbrev BeginsAny : Result (Option Number × Outbox) NodeFault → Type 0
-  BeginsAny result = (plan : Plan) (own : ℕ) → IsNodeOf plan own old.mail → users ≡ plan.users → IsTextEnded call → NodeBegins on plan own seconds call old.mail before new.mail after result
+  BeginsAny result = (plan : Plan) (own : ℕ) → IsNodeOf plan own old.mail → NodeBegins on plan own seconds call old.mail before new.mail after result
 
-  begins_one : (result : Result (Option Number × Outbox) NodeFault) → BeginsAny result → NodeBegins on (plan_for users old.mail) old.mail.store.own seconds call old.mail before new.mail after result
-  begins_one result begins = begins (plan_for users old.mail) old.mail.store.own (is_for users old.mail) (has_users users old.mail) ended
+  begins_one : (result : Result (Option Number × Outbox) NodeFault) → BeginsAny result → NodeBegins on (plan_of old.mail) old.mail.store.own seconds call old.mail before new.mail after result
+  begins_one result begins = begins (plan_of old.mail) old.mail.store.own (is_of old.mail)
 
   mail_works : (result : Result (Option Number × Outbox) NodeFault) → BeginsAny result → LeavesUp result → CanWork (on.seen after) new.mail
-  mail_works result begins up = beginning_goes_on on old.mail before new.mail after works.mail users seconds call ended result begins up
+  mail_works result begins up = beginning_goes_on on old.mail before new.mail after works.mail seconds call ended result (λ plan own is e. begins plan own is) up
+
+  failed_on : (fault : NodeFault) → BeginsAny (Err fault) → new.maps ≡ old.maps → LeavesUp {T = Option Number × Outbox} (Err fault) → Outlasts old new
+  failed_on fault begins maps up = failed_has on (plan_of old.mail) old.mail.store.own seconds old before new after (is_of old.mail) works.maps works.mail.whole call fault (begins_one (Err fault) begins) maps up
+
+  begun_on : (ticket : Option Number) (outbox : Outbox) → BeginsAny (Ok (ticket, outbox)) → NotesBegun ticket new.mail old.maps new.maps → Outlasts old new
+  begun_on ticket outbox begins notes =
+      begun_has on (plan_of old.mail) old.mail.store.own seconds old before new after (is_of old.mail) works.maps works.mail.whole call ticket outbox (begins_one (Ok (ticket, outbox)) begins) notes
 
   pub failed_works : (fault : NodeFault) → BeginsAny (Err fault) → new.maps ≡ old.maps → LeavesUp {T = Option Number × Outbox} (Err fault) → WholeWorks (on.seen after) new
-  failed_works fault begins maps up = record {
-    mail = mail_works (Err fault) begins up;
-    maps = failed_has on (plan_for users old.mail) old.mail.store.own seconds old before new after (is_for users old.mail) works.maps works.mail.whole call fault (begins_one (Err fault) begins) maps up;
-  }
+  failed_works fault begins maps up = works_on old new (on.seen after) (failed_on fault begins maps up) works.reads kept (mail_works (Err fault) begins up)
 
   pub begun_works : (ticket : Option Number) (outbox : Outbox) → BeginsAny (Ok (ticket, outbox)) → NotesBegun ticket new.mail old.maps new.maps → WholeWorks (on.seen after) new
-  begun_works ticket outbox begins notes = record {
-    mail = mail_works (Ok (ticket, outbox)) begins tt;
-    maps = begun_has on (plan_for users old.mail) old.mail.store.own seconds old before new after (is_for users old.mail) works.maps works.mail.whole call ticket outbox (begins_one (Ok (ticket, outbox)) begins) notes;
-  }
+  begun_works ticket outbox begins notes = works_on old new (on.seen after) (begun_on ticket outbox begins notes) works.reads kept (mail_works (Ok (ticket, outbox)) begins tt)
+
+  -- and has what it had of calls that read
+  pub begun_beside : (ticket : Option Number) (outbox : Outbox) → BeginsAny (Ok (ticket, outbox)) → NotesBegun ticket new.mail old.maps new.maps → KeepsReads (Up (joint_seen old)) (joint_seen new)
+  begun_beside ticket outbox begins notes = beside_on old new works.maps (begun_on ticket outbox begins notes) kept
 
   pub begun_all_fit : (ticket : Option Number) (outbox : Outbox) → BeginsAny (Ok (ticket, outbox)) → All FitsMaps outbox.letters
   begun_all_fit ticket outbox begins =
-      begun_fits on (plan_for users old.mail) old.mail.store.own seconds old before new after (is_for users old.mail) works.maps works.mail.whole call ticket outbox (begins_one (Ok (ticket, outbox)) begins)
+      begun_fits on (plan_of old.mail) old.mail.store.own seconds old before new after (is_of old.mail) works.maps works.mail.whole call ticket outbox (begins_one (Ok (ticket, outbox)) begins)

@@ -23,9 +23,10 @@ use Rattle.node_maps.specs.Nodes.{node_of, own_of}
 use Rattle.node_maps.specs.declared.maps.NodeMaps.{NodeMaps}
 use Rattle.whole_world.proofs.Staying.{follows_boot}
 use Rattle.whole_world.proofs.Keeping.{follows_epoch}
-use Rattle.whole_node.specs.Nodes.{KnowsHere, HasMaps, WholeWorks}
+use Rattle.whole_node.specs.Nodes.{KnowsHere, HasMaps, AreReadsOf, KeepsBeside, WholeWorks}
 use Rattle.whole_node.specs.Following.{MapsFollow}
 use Rattle.whole_node.specs.declared.node.WholeNode.{WholeNode}
+use Rattle.whole_node.proofs.Beside.{Outlasts, works_on}
 use Rattle.whole_node.proofs.Led.{led_is}
 use Rattle.whole_node.proofs.Taking.{Leads}
 
@@ -119,7 +120,27 @@ module _ (old : WholeNode) (has : HasMaps old) where
     knows = λ user id. ap (λ (m : NodeMaps). is_here_in m.fragments user id) maps ∙ has.knows user id;
   }
 
-  -- its tickets changed alone, or nothing did
-  pub works_same : (new : WholeNode) (seen : Option (List ℕ)) → IsSameNode old.mail new.mail → (node_seen new.mail).boot ≡ (node_seen old.mail).boot → (node_seen new.mail).installed ≡ (node_seen old.mail).installed
-      → ((records : List Record) → NodeKeeps records old.mail → NodeKeeps records new.mail) → new.maps ≡ old.maps → CanWork seen new.mail → WholeWorks seen new
-  works_same new seen same boot epoch keeps maps works = record { mail = works; maps = has_same new same boot epoch keeps maps }
+  -- so it goes on
+  pub outlasts_after : {D : Type 0} (on : View D) (rule : Rule) (before : D) (new : WholeNode) (after : D) (sent : List Letter) → NodeDid on rule old.mail before new.mail after sent
+      → ((records : List Record) → (rule (node_seen old.mail) records).node.installed ≡ (node_seen old.mail).installed)
+      → ((records : List Record) → NodeKeeps records old.mail → Leads (own_of old.maps) records (rule (node_seen old.mail) records).disk old.maps new.maps) → Outlasts old new
+  outlasts_after on rule before new after sent d stays leads = record {
+    maps = has_after on rule before new after sent d stays leads;
+    mail = record {
+      boot = record { own = same_own old.mail new.mail d.same; boot = d.boot };
+      epoch = sym (ap (λ (n : plain.Node). n.installed) (d.node has.records has.keeps)) ∙ stays has.records;
+    };
+  }
+
+  pub outlasts_same : (new : WholeNode) → IsSameNode old.mail new.mail → (node_seen new.mail).boot ≡ (node_seen old.mail).boot → (node_seen new.mail).installed ≡ (node_seen old.mail).installed
+      → ((records : List Record) → NodeKeeps records old.mail → NodeKeeps records new.mail) → new.maps ≡ old.maps → Outlasts old new
+  outlasts_same new same boot epoch keeps maps = record {
+    maps = has_same new same boot epoch keeps maps;
+    mail = record { boot = record { own = same_own old.mail new.mail same; boot = boot }; epoch = epoch };
+  }
+
+-- its tickets changed alone, or nothing did
+pub works_same : (old : WholeNode) → HasMaps old → AreReadsOf old.mail old.reads → (new : WholeNode) (seen : Option (List ℕ)) → IsSameNode old.mail new.mail → (node_seen new.mail).boot ≡ (node_seen old.mail).boot
+    → (node_seen new.mail).installed ≡ (node_seen old.mail).installed → ((records : List Record) → NodeKeeps records old.mail → NodeKeeps records new.mail) → new.maps ≡ old.maps → KeepsBeside old new
+    → CanWork seen new.mail → WholeWorks seen new
+works_same old has of new seen same boot epoch keeps maps kept works = works_on old new seen (outlasts_same old has new same boot epoch keeps maps) of kept works

@@ -62,7 +62,7 @@ taken_in body installed old mid new f l = record {
 -- a letter was taken in
 pub took_letter : (letter : Letter) (outbox : Outbox) (old : WholeNode) (heard : NodeMaps) (shared : WholeNode) (new : Node) (answer : Answer) (body : Body) → body ≡ letter.body
     → HearsBody old.maps letter letter.body answer heard → shared.maps ≡ heard → SharesInstall body (node_of heard).installed old.mail shared.mail → HasLearned body shared.mail new
-    → outbox.letters ≡ answer.letters → option_map why_seen outbox.thrown ≡ option_map why_refused answer.thrown → TookLetter letter outbox old (record { mail = new; maps = shared.maps })
+    → outbox.letters ≡ answer.letters → option_map why_seen outbox.thrown ≡ option_map why_refused answer.thrown → TookLetter letter outbox old (record shared { mail = new })
 took_letter letter outbox old heard shared new answer body same hears maps shares learned letters thrown = record {
   answer = answer;
   heard = subst (HearsBody old.maps letter letter.body answer) (sym maps) hears;

@@ -38,9 +38,11 @@ use Rattle.node_core.specs.Installing.{HasInstalled}
 use Rattle.node_core.specs.Promising.{promising}
 use Rattle.node_core.specs.Works.{NodeDid}
 use Rattle.node_core.specs.declared.node.Node.{Node}
-use Rattle.whole_node.specs.Nodes.{HasMaps}
+use Rattle.node_reads.specs.Tables.{reads_in}
+use Rattle.whole_node.specs.Nodes.{HasMaps, AreReadsOf, HasNoReads, KeepsBeside}
 use Rattle.whole_node.specs.Starting.{first_map, HasPromisedFirst, EntersMaps, EntersEpoch, HasFirstMaps, HasEnteredFirst, IsInFirstEpoch, IsFirstWhole}
 use Rattle.whole_node.specs.declared.node.WholeNode.{WholeNode}
+use Rattle.whole_node.proofs.Beside.{reads_of}
 use Rattle.whole_node.proofs.Called.{knows_any}
 use Rattle.whole_node.proofs.Holding.{holds_same}
 
@@ -141,16 +143,17 @@ module _ (old new : NodeMaps) (letter : Letter) (answer : Answer) (g : Membershi
   pub entered_maps : (node_of new).installed ≡ Some g
   entered_maps = ap (λ (n : maps.Node). n.installed) left.is
 
-  pub enters : (mail after : Node) → HasInstalled (node_of new).installed mail after → EntersEpoch g (record { mail = mail; maps = old }) (record { mail = after; maps = new })
-  enters mail after h = record {
+  pub enters : (before after : WholeNode) → HasInstalled (node_of new).installed before.mail after.mail → KeepsBeside before after → EntersEpoch g (record before { maps = old }) (record after { maps = new })
+  enters before after h kept = record {
     rule = left;
-    mail = subst (λ (m : Option Membership). HasInstalled m mail after) entered_maps h;
+    mail = subst (λ (m : Option Membership). HasInstalled m before.mail after.mail) entered_maps h;
     installed = entered_maps;
     promise = ap (λ (n : maps.Node). n.promise) left.is;
     group = ap (λ (n : maps.Node). n.group) left.is;
     own = heard.own;
     boot = ap (λ (n : maps.Node). n.boot) left.is;
     held = heard.held;
+    beside = record { reads = kept.reads; locks = kept.locks };
   }
 
 -- A node that holds no message of a user and has nothing due marks nobody as it enters an epoch; and where it comes from no epoch it has no row.
@@ -170,8 +173,14 @@ no_row own node held g m boot user row without unmarked none (Drops kept other i
 abbrev started_first : maps.Node
 started_first = rules.started (record { boot = 0; promise = first_epoch; holds = λ user. false })
 
-module _ (plan : Plan) (mail : Node) (p : HasPromisedFirst plan mail) (its : NodeMaps) (has : HasMaps (record { mail = mail; maps = its }))
-    (starts : (image : maps.Disk) → image.boot + 1 ≡ (node_seen mail).boot → image.promise ≡ first_epoch → node_of its ≡ rules.started image) where
+module _ (plan : Plan) (start : WholeNode) (p : HasPromisedFirst plan start.mail) (has : HasMaps start)
+    (starts : (image : maps.Disk) → image.boot + 1 ≡ (node_seen start.mail).boot → image.promise ≡ first_epoch → node_of start.maps ≡ rules.started image) where
+  abbrev mail : Node
+  mail = start.mail
+
+  abbrev its : NodeMaps
+  its = start.maps
+
   its_are : node_of its ≡ started_first
   its_are = starts (record { boot = 0; promise = first_epoch; holds = λ user. false }) (sym p.boot) refl
 
@@ -190,7 +199,7 @@ module _ (plan : Plan) (mail : Node) (p : HasPromisedFirst plan mail) (its : Nod
 
   -- no message is here
   none_here : (user : List ℕ) → holds_in its user ≡ false
-  none_here user = holds_same (Boot 1 ∷ Promise first_epoch ∷ []) its (knows_any (record { mail = mail; maps = its }) has (Boot 1 ∷ Promise first_epoch ∷ []) p.keeps) user
+  none_here user = holds_same (Boot 1 ∷ Promise first_epoch ∷ []) its (knows_any start has (Boot 1 ∷ Promise first_epoch ∷ []) p.keeps) user
 
   first_maps_are : (now : NodeMaps) → EntersMaps membership its now → node_of now ≡ first_maps plan.nodes (first_map plan)
   first_maps_are now e =
@@ -201,8 +210,8 @@ module _ (plan : Plan) (mail : Node) (p : HasPromisedFirst plan mail) (its : Nod
       λ i m boot user. no_row (own_of its) (node_of its) _ membership m boot user (e.rows m boot user) without (unmarked user) (none_here user) (e.entering.keeps m boot user) i in
       e.is ∙ ap (λ (n : maps.Node). rules.entered n membership e.marked e.rows) its_are ∙ (λ i. rules.entered started_first membership (marks i) (rows i))
 
-  pub first_entered : (g : Membership) (node : WholeNode) → g ≡ membership → EntersEpoch g (record { mail = mail; maps = its }) node → HasEnteredFirst plan mail node
-  first_entered g node is e = record {
+  pub first_entered : (g : Membership) (node : WholeNode) → g ≡ membership → EntersEpoch g start node → AreReadsOf mail start.reads → HasNoReads start → HasEnteredFirst plan mail node
+  first_entered g node is e of none = record {
     mail = subst (λ (m : Membership). HasInstalled (Some m) mail node.mail) is e.mail;
     maps = record {
       promise = e.promise ∙ ap (λ (n : maps.Node). n.promise) its_are;
@@ -215,6 +224,8 @@ module _ (plan : Plan) (mail : Node) (p : HasPromisedFirst plan mail) (its : Nod
         keeps = e.mail.keeps has.records has.keeps;
         knows = λ user id. ap (λ (f : Fragments). is_here_in f user id) e.held ∙ has.knows user id;
       };
+      reads = reads_of start node (record { own = ap (λ (s : NodeStore). s.own) e.mail.store; boot = ap (λ (n : plain.Node). n.boot) e.mail.seen }) of e.beside.reads;
+      blank = record { none = ap reads_in e.beside.reads ∙ none.none; free = e.beside.locks ∙ none.free };
     };
     maps_are = first_maps_are node.maps (subst (λ (m : Membership). EntersMaps m its node.maps) is e.rule);
   }

@@ -23,7 +23,7 @@ use Rattle.node_core.specs.Nodes.{node_seen, NodeKeeps}
 use Rattle.node_core.specs.declared.node.Node.{Node}
 use Rattle.node_maps.specs.Nodes.{node_of, own_of, holds_in}
 use Rattle.node_maps.specs.declared.maps.NodeMaps.{NodeMaps}
-use Rattle.whole_node.specs.Nodes.{HasMaps, KeepsNamed}
+use Rattle.whole_node.specs.Nodes.{AreMapsOf, KeepsNamed}
 use Rattle.whole_node.proofs.Holding.{same_id, own_id, same_user, own_user}
 
 -- a test of sameness is the same from either side
@@ -121,7 +121,7 @@ pub over_has : (mail : Node) (promise : EpochId) (users : List (List ℕ)) (firs
     → node_of new ≡ node_of first → own_of new ≡ own_of first
     → ((records : List Record) → NodeKeeps records mail → (user : List ℕ) (id : Id)
     → is_here_in new.fragments user id ≡ (is_here_in first.fragments user id || (has_user users user && is_here_held (said (Message user id) records))))
-    → HasMaps (record { mail = mail; maps = new })
+    → AreMapsOf mail new
 over_has mail promise users first new drawn without named own starts none node owns found = record {
   own = owns ∙ own;
   boot = ap (λ (n : maps.Node). n.boot) (node ∙ starts (record { boot = mail.numbers.boot - 1; promise = promise; holds = λ user. false }) back refl) ∙ back;

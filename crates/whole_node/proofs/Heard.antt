@@ -22,7 +22,7 @@ use Rattle.node_core.specs.declared.outbox.Outbox.{Outbox}
 use Rattle.node_core.specs.declared.node.Node.{Node}
 use Rattle.node_maps.specs.Nodes.{own_of}
 use Rattle.node_maps.specs.declared.maps.NodeMaps.{NodeMaps}
-use Rattle.whole_node.specs.Nodes.{HasMaps, WholeWorks}
+use Rattle.whole_node.specs.Nodes.{HasMaps, KeepsBeside, WholeWorks}
 use Rattle.whole_node.specs.Noting.{NotesCopies, copies_named}
 use Rattle.whole_node.specs.Following.{MapsFollow, MapsStay, FollowsRule, FollowsOrThrows, FollowsLetter}
 use Rattle.whole_node.specs.declared.node.WholeNode.{WholeNode}
@@ -30,7 +30,8 @@ use Rattle.whole_node.proofs.Taking.{Leads}
 use Rattle.whole_node.proofs.Ruled.{leads_heard, leads_widened}
 use Rattle.whole_node.proofs.Mailing.{hears_mail, widens_mail, sent_like}
 use Rattle.whole_node.specs.Hearing.{FitsMaps}
-use Rattle.whole_node.proofs.Called.{plan_of, is_of, done_stops, knows_any, follows_led, has_after, has_same}
+use Rattle.whole_node.proofs.Beside.{Outlasts, works_on}
+use Rattle.whole_node.proofs.Called.{plan_of, is_of, done_stops, knows_any, follows_led, outlasts_after, outlasts_same}
 
 module _ {D : Type 0} (on : View D) (letter : Letter) (old : WholeNode) (before : D) (new : WholeNode) (after : D) (has : HasMaps old) where
   abbrev pub HearsAny : Result Outbox NodeFault → Type 0
@@ -59,12 +60,12 @@ module _ {D : Type 0} (on : View D) (letter : Letter) (old : WholeNode) (before 
       subst (λ (t : Option Why). FollowsOrThrows (λ node disk. hear own plan.nodes node disk letter) t old new) none
       (follows_led old has (λ node disk. hear own plan.nodes node disk letter) new (leads_of plan own is outbox.letters h.did notes))
 
-  pub heard_has : (outbox : Outbox) → None ≡ outbox.thrown → HearsAny (Ok outbox) → Noted → HasMaps new
+  pub heard_has : (outbox : Outbox) → None ≡ outbox.thrown → HearsAny (Ok outbox) → Noted → Outlasts old new
   heard_has outbox none hears notes =
       let plan = plan_of old.mail in
       let own = old.mail.store.own in
       let h = heard_of plan own outbox none (hears plan own (is_of old.mail)) in
-      has_after old has on (λ node disk. hear own plan.nodes node disk letter) before new after outbox.letters h.did (λ records. (hears_mail own plan.nodes (node_seen old.mail) records letter).epoch) (leads_of plan own (is_of old.mail) outbox.letters h.did notes)
+      outlasts_after old has on (λ node disk. hear own plan.nodes node disk letter) before new after outbox.letters h.did (λ records. (hears_mail own plan.nodes (node_seen old.mail) records letter).epoch) (leads_of plan own (is_of old.mail) outbox.letters h.did notes)
 
   pub heard_fits : (outbox : Outbox) → None ≡ outbox.thrown → HearsAny (Ok outbox) → All FitsMaps outbox.letters
   heard_fits outbox none hears =
@@ -84,15 +85,15 @@ module _ {D : Type 0} (on : View D) (letter : Letter) (old : WholeNode) (before 
   pub thrown_follows : (outbox : Outbox) (why : Why) → Some why ≡ outbox.thrown → new.maps ≡ old.maps → FollowsAny (Ok outbox)
   thrown_follows outbox why thrown maps plan own is = subst (λ (t : Option Why). FollowsOrThrows (λ node disk. hear own plan.nodes node disk letter) t old new) thrown maps
 
-  as_before : IsAsBefore old.mail new.mail → new.maps ≡ old.maps → HasMaps new
-  as_before same maps = has_same old has new same.same (ap (λ n. n.boot) same.seen) (ap (λ n. n.installed) same.seen) same.keeps maps
+  as_before : IsAsBefore old.mail new.mail → new.maps ≡ old.maps → Outlasts old new
+  as_before same maps = outlasts_same old has new same.same (ap (λ n. n.boot) same.seen) (ap (λ n. n.installed) same.seen) same.keeps maps
 
   pub thrown_fits : (outbox : Outbox) (why : Why) → Some why ≡ outbox.thrown → HearsAny (Ok outbox) → All FitsMaps outbox.letters
   thrown_fits outbox why thrown hears = subst (All FitsMaps)
       (sym (subst (λ (t : Option Why). HeardOrThrown on old.mail.store.own (plan_of old.mail).nodes letter old.mail before new.mail after t outbox.letters) (sym thrown) (hears (plan_of old.mail) old.mail.store.own (is_of old.mail))).none)
       (All-nil FitsMaps)
 
-  pub thrown_has : (outbox : Outbox) (why : Why) → Some why ≡ outbox.thrown → HearsAny (Ok outbox) → new.maps ≡ old.maps → HasMaps new
+  pub thrown_has : (outbox : Outbox) (why : Why) → Some why ≡ outbox.thrown → HearsAny (Ok outbox) → new.maps ≡ old.maps → Outlasts old new
   thrown_has outbox why thrown hears maps = as_before
       (subst (λ (t : Option Why). HeardOrThrown on old.mail.store.own (plan_of old.mail).nodes letter old.mail before new.mail after t outbox.letters) (sym thrown) (hears (plan_of old.mail) old.mail.store.own (is_of old.mail))).as_before maps
 
@@ -103,7 +104,7 @@ module _ {D : Type 0} (on : View D) (letter : Letter) (old : WholeNode) (before 
   failed_follows (NoMemory true) maps plan own is = tt
   failed_follows (NoMemory false) maps plan own is = maps
 
-  pub failed_has : (fault : NodeFault) → HearsAny (Err fault) → new.maps ≡ old.maps → LeavesUp {T = Outbox} (Err fault) → HasMaps new
+  pub failed_has : (fault : NodeFault) → HearsAny (Err fault) → new.maps ≡ old.maps → LeavesUp {T = Outbox} (Err fault) → Outlasts old new
   failed_has Disk hears maps up = absurd up
   failed_has Worn hears maps up = absurd (hears (plan_of old.mail) old.mail.store.own (is_of old.mail))
   failed_has (NoMemory true) hears maps up = absurd up
@@ -125,30 +126,31 @@ module _ {D : Type 0} (on : View D) (user : List ℕ) (id : Id) (to : ℕ) (old 
   widened_follows (Err (NoMemory true)) plan own is = tt
   widened_follows (Err (NoMemory false)) plan own is = maps
 
-  pub widened_has : (result : Result Bool NodeFault) → WidensAny result → LeavesUp result → HasMaps new
+  pub widened_has : (result : Result Bool NodeFault) → WidensAny result → LeavesUp result → Outlasts old new
   widened_has result widens up = by result up (widens (plan_of old.mail) old.mail.store.own (is_of old.mail))
     where
-      by : (r : Result Bool NodeFault) → LeavesUp r → WidensCopy on old.mail.store.own to (Message user id) old.mail before new.mail after r → HasMaps new
-      by (Ok did) up w = has_after old has on (λ node disk. widen old.mail.store.own to (Message user id) node disk) before new after [] w.1 (λ records. (widens_mail old.mail.store.own to (Message user id) (node_seen old.mail) records).epoch) (widening_leads old.mail.store.own has.own)
+      by : (r : Result Bool NodeFault) → LeavesUp r → WidensCopy on old.mail.store.own to (Message user id) old.mail before new.mail after r → Outlasts old new
+      by (Ok did) up w = outlasts_after old has on (λ node disk. widen old.mail.store.own to (Message user id) node disk) before new after [] w.1 (λ records. (widens_mail old.mail.store.own to (Message user id) (node_seen old.mail) records).epoch) (widening_leads old.mail.store.own has.own)
       by (Err Disk) up w = absurd up
       by (Err Worn) up w = absurd w
       by (Err (NoMemory true)) up w = absurd up
-      by (Err (NoMemory false)) up w = has_same old has new w.0.same (ap (λ n. n.boot) w.0.seen) (ap (λ n. n.installed) w.0.seen) w.0.keeps maps
+      by (Err (NoMemory false)) up w = outlasts_same old has new w.0.same (ap (λ n. n.boot) w.0.seen) (ap (λ n. n.installed) w.0.seen) w.0.keeps maps
 
 -- a push changes nothing
-pub pushed_works : {D : Type 0} (on : View D) (to most room : ℕ) (old : WholeNode) (before : D) (new : WholeNode) (after : D) → WholeWorks (on.seen before) old → new.maps ≡ old.maps
+pub pushed_works : {D : Type 0} (on : View D) (to most room : ℕ) (old : WholeNode) (before : D) (new : WholeNode) (after : D) → WholeWorks (on.seen before) old → new.maps ≡ old.maps → KeepsBeside old new
     → (result : Result Outbox NodeFault) → ((plan : Plan) (own : ℕ) → IsNodeOf plan own old.mail → PushesOut on own to most room old.mail before new.mail after result) → LeavesUp result → WholeWorks (on.seen after) new
-pushed_works on to most room old before new after works maps result pushes up = record {
-  mail = pushing_goes_on on old.mail before new.mail after works.mail to most room result pushes up;
-  maps = by result up (pushes (plan_of old.mail) old.mail.store.own (is_of old.mail));
-}
+pushed_works on to most room old before new after works maps kept result pushes up = works_on old new (on.seen after) (by result up (pushes (plan_of old.mail) old.mail.store.own (is_of old.mail))) works.reads kept
+    (pushing_goes_on on old.mail before new.mail after works.mail to most room result pushes up)
   where
-    by : (r : Result Outbox NodeFault) → LeavesUp r → PushesOut on old.mail.store.own to most room old.mail before new.mail after r → HasMaps new
-    by (Ok outbox) up p = has_same old works.maps new p.1.as_before.same (ap (λ n. n.boot) p.1.as_before.seen) (ap (λ n. n.installed) p.1.as_before.seen) p.1.as_before.keeps maps
+    same : IsAsBefore old.mail new.mail → Outlasts old new
+    same a = outlasts_same old works.maps new a.same (ap (λ n. n.boot) a.seen) (ap (λ n. n.installed) a.seen) a.keeps maps
+
+    by : (r : Result Outbox NodeFault) → LeavesUp r → PushesOut on old.mail.store.own to most room old.mail before new.mail after r → Outlasts old new
+    by (Ok outbox) up p = same p.1.as_before
     by (Err Disk) up p = absurd up
     by (Err Worn) up p = absurd p
     by (Err (NoMemory true)) up p = absurd up
-    by (Err (NoMemory false)) up p = has_same old works.maps new p.0.same (ap (λ n. n.boot) p.0.seen) (ap (λ n. n.installed) p.0.seen) p.0.keeps maps
+    by (Err (NoMemory false)) up p = same p.0
 
 pub pushed_fits : {D : Type 0} (on : View D) (to most room : ℕ) (old : WholeNode) (before : D) (new : WholeNode) (after : D) → HasMaps old
     → (result : Result Outbox NodeFault) → ((plan : Plan) (own : ℕ) → IsNodeOf plan own old.mail → PushesOut on own to most room old.mail before new.mail after result) → IfOk result (λ outbox. All FitsMaps outbox.letters)

@@ -5,6 +5,7 @@ pub mod Noted
 pub mod Taking
 pub mod Ruled
 pub mod Mailing
+pub mod Beside
 pub mod Called
 pub mod Heard
 pub mod Begun
@@ -21,3 +22,10 @@ mod Outlasted
 mod Settled
 pub mod Reported
 pub mod AtRest
+pub mod Reacting
+pub mod ReadLetters
+pub mod Locking
+pub mod ReadDids
+pub mod LoggedIn
+pub mod Fetched
+pub mod HeardReads

@@ -37,7 +37,6 @@ use Rattle.node_core.specs.Nodes.{node_seen, NodeKeeps, end_in, IsAsBefore, IsSa
 use Rattle.node_core.specs.Works.{Rule, NodeDid, NodeStopped, NodeFailed}
 use Rattle.node_core.specs.Hearing.{why_seen}
 use Rattle.node_core.specs.Spelling.{AllCanBeTaken}
-use Rattle.node_core.specs.Weights.{weight_of_body, weight_of, weight_of_all}
 use Rattle.node_core.specs.declared.fault.NodeFault.{NodeFault}
 use Rattle.node_core.specs.declared.fault.NodeFault.TheVariants.{Disk, Worn, NoMemory}
 use Rattle.node_core.specs.declared.node.Node.{Node}
@@ -51,6 +50,7 @@ use Rattle.whole_node.specs.Forming.{forms_by, FormsOn}
 use Rattle.whole_node.specs.Hearing.{NamesANode, FitsMaps, why_refused, is_install, installs, HasTakenIn, appends_promise, PromiseStands, MakesPromise, TookLetter, TakesLetter, LeftByRule, LookedAt, ThrownStale, LookedAtOrStale, KeepsMaps, HearsOfMaps}
 use Rattle.whole_node.specs.declared.node.WholeNode.{WholeNode}
 use Rattle.whole_node.proofs.Holding.{holds_same}
+use Rattle.whole_node.proofs.Beside.{reads_of}
 use Rattle.whole_node.proofs.Called.{same_own, done_stops, knows_any}
 use Rattle.whole_node.proofs.Refused.{refused_same, never_stale}
 use Rattle.whole_node.proofs.Said.{AreSaid, none_says, hears_boot, hears_epoch, are_said}
@@ -112,6 +112,17 @@ pub knows_promised : (promise : Option EpochId) (records : List Record) (old new
 knows_promised promise records old new held knows user id =
     ap (λ (f : Fragments). is_here_in f user id) held ∙ knows user id ∙ ap is_here_held (sym (said_promised promise user id records))
 
+-- it was taken in, and then only locks were let go
+pub took_kept : (letter : Letter) (outbox : Outbox) (old mid new : WholeNode) → new.mail ≡ mid.mail → new.maps ≡ mid.maps → TookLetter letter outbox old mid → TookLetter letter outbox old new
+took_kept letter outbox old mid new mail maps took = record {
+  answer = took.answer;
+  heard = subst (HearsBody old.maps letter letter.body took.answer) (sym maps) took.heard;
+  letters = took.letters;
+  thrown = took.thrown;
+  taken = subst (λ (m : NodeMaps). HasTakenIn letter.body m.group.installed old.mail new.mail) (sym maps)
+      (subst (λ (m : Node). HasTakenIn letter.body mid.maps.group.installed old.mail m) (sym mail) took.taken);
+}
+
 -- what a disk tells is what the maps know
 pub is_disk : (records : List Record) (maps : NodeMaps) → KnowsHere records maps → IsDisk maps (maps_disk_of records)
 is_disk records maps knows = record { holds = λ user. sym (holds_same records maps knows user) }
@@ -159,17 +170,6 @@ module _ {D : Type 0} (on : View D) (letter : Letter) (old : WholeNode) (before 
   stale_heard e outbox none thrown = subst (λ (t : Option Why). LookedAtOrStale on letter old before old before t outbox.letters) (sym thrown)
       (record { stale = e; none = none; as_before = as_it_was old.mail; maps = refl; untouched = refl })
 
-  pub stale_light : (outbox : Outbox) → outbox.letters ≡ [] → weight_of_all outbox.letters < weight_of letter
-  stale_light outbox none = subst (λ (l : List Letter). weight_of_all l < weight_of letter) (sym none) (by letter.body of)
-    where
-      by : (body : Body) → IsMapsBody body → 0 < weight_of_body body
-      by (Group epoch) of = omega arith
-      by (Join epoch promise boot was claims) of = omega arith
-      by (Install membership) of = omega arith
-      by (Report row) of = omega arith
-      by (ReportAck user version) of = omega arith
-      by other of = absurd of
-
   pub stale_fits : (outbox : Outbox) → outbox.letters ≡ [] → All FitsMaps outbox.letters
   stale_fits outbox none = subst (All FitsMaps) (sym none) none_says
 
@@ -214,7 +214,7 @@ module _ {D : Type 0} (on : View D) (letter : Letter) (old : WholeNode) (before 
           (subst (λ (p : Option EpochId). rules.Hears (own_of old.maps) (node_of old.maps) (maps_disk_of records) letter letter.body (left_by new.maps p (maps_disk_of records) took.answer.letters)) (due_is (node_of old.maps) letter.body)
           (heard.did (maps_disk_of records) (is_disk records old.maps (knows_any old works.maps records keeps)))))
 
-      said_so : AreSaid letter.body outbox.letters
+      said_so : AreSaid outbox.letters
       said_so = are_said old.mail.store.own (node_of old.maps) (maps_disk_of works.maps.records) letter (left_by new.maps promise (maps_disk_of works.maps.records) outbox.letters) letter.body of (hears works.maps.records works.maps.keeps)
 
       same_epoch : is_install letter.body ≡ false → (node_of new.maps).installed ≡ (node_of old.maps).installed
@@ -267,18 +267,19 @@ module _ {D : Type 0} (on : View D) (letter : Letter) (old : WholeNode) (before 
           by (Some why.Late) l = l
           by None l = l
 
-      pub heard_light : weight_of_all outbox.letters < weight_of letter
-      heard_light = said_so.light
-
       pub heard_fits : All FitsMaps outbox.letters
       heard_fits = said_so.fits
 
-      pub heard_works : WholeWorks (on.seen amid) new
-      heard_works = record {
+      pub heard_has : HasMaps new
+      heard_has = has_ruled on (forms_by (with_stamps letter.body) (node_of new.maps).installed promise outbox.letters) promise old before new amid outbox.letters works.maps (λ records. refl) mail_did heard.own
+          (hears_boot old.mail.store.own (node_of old.maps) (maps_disk_of works.maps.records) letter (left_by new.maps promise (maps_disk_of works.maps.records) outbox.letters) letter.body of
+          (hears works.maps.records works.maps.keeps))
+          (ap (λ (n : plain.Node). n.installed) mail_seen)
+          heard.held
+
+      pub heard_works : new.reads ≡ old.reads → WholeWorks (on.seen amid) new
+      heard_works reads = record {
         mail = mail_did.works;
-        maps = has_ruled on (forms_by (with_stamps letter.body) (node_of new.maps).installed promise outbox.letters) promise old before new amid outbox.letters works.maps (λ records. refl) mail_did heard.own
-            (hears_boot old.mail.store.own (node_of old.maps) (maps_disk_of works.maps.records) letter (left_by new.maps promise (maps_disk_of works.maps.records) outbox.letters) letter.body of
-            (hears works.maps.records works.maps.keeps))
-            (ap (λ (n : plain.Node). n.installed) mail_seen)
-            heard.held;
+        maps = heard_has;
+        reads = reads_of old new (record { own = same_own old.mail new.mail mail_did.same; boot = mail_did.boot }) works.reads reads;
       }

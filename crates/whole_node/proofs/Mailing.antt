@@ -127,9 +127,9 @@ begins_mail plan w own node disk (StrikeCall user items) octets = record {
   epoch = refl;
   fits = strikes_fit own (epoch_of node) (new_number own node) user (dated own node node.count (asked_for plan own node items)) plan.nodes;
 }
-begins_mail plan w own node disk (Login user secret) octets = still node node disk refl
-begins_mail plan w own node disk (Fetch user id from most) octets = still node node disk refl
-begins_mail plan w own node disk (Leave user) octets = still node node disk refl
+begins_mail plan w own node disk (Login user proof) octets = still node node disk refl
+begins_mail plan w own node disk (Fetch user id from most holders) octets = still node node disk refl
+begins_mail plan w own node disk (Leave user login manager) octets = still node node disk refl
 
 pub widens_mail : (own to : ℕ) (key : Key) (node : Node) (disk : List Record) → IsOfMail node (widen own to key node disk)
 widens_mail own to key node disk = by (said key disk)

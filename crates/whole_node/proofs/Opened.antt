@@ -40,12 +40,15 @@ use Rattle.node_core.specs.declared.fault.NodeFault.{NodeFault}
 use Rattle.node_core.specs.declared.fault.NodeFault.TheVariants.{Disk, Worn, NoMemory}
 use Rattle.node_core.specs.declared.node.Node.{Node}
 use Rattle.node_core.proofs.Sending.{none_fit}
-use Rattle.whole_node.specs.Nodes.{whole_seen, KnowsHere, HasMaps, WholeWorks}
+use Rattle.joint_model.specs.Joint.Life.{Up}
+use Rattle.joint_world.specs.Staying.{KeepsReads}
+use Rattle.whole_node.specs.Nodes.{whole_seen, joint_seen, KnowsHere, HasMaps, KeepsBeside, WholeWorks}
 use Rattle.whole_node.specs.Forming.{forms_by, FormsOn}
 use Rattle.whole_node.specs.Hearing.{FitsMaps, appends_promise}
 use Rattle.whole_node.specs.Grouping.{next_of, GroupOpened, Unopened, StopsOpening, OpensGroup, ConcludedBy, GroupConcluded, ConcludesOrNot, ConcludesGroup}
 use Rattle.whole_node.specs.declared.grouping.Grouped.{Grouped}
 use Rattle.whole_node.specs.declared.node.WholeNode.{WholeNode}
+use Rattle.whole_node.proofs.Beside.{reads_of, idle_beside}
 use Rattle.whole_node.proofs.Called.{same_own, done_stops, knows_any}
 use Rattle.whole_node.proofs.Said.{none_says, more_says, more_taken}
 use Rattle.whole_node.proofs.Looked.{as_it_was, is_disk, has_ruled}
@@ -138,12 +141,19 @@ module _ {D : Type 0} (on : View D) (nodes : ℕ) (old : WholeNode) (before : D)
         fits = subst (All FitsMaps) (sym is) turned_fit;
       }
 
-      pub opened_works : WholeWorks (on.seen after) new
-      opened_works = record {
+      pub opened_has : HasMaps new
+      opened_has = has_ruled on (appends_promise (Some (next_of old)) []) (Some (next_of old)) old before new after [] works.maps (λ records. refl) d opens.own
+          (sym (ap (λ (r : rules.Reaction). r.node.boot) (started any_disk))) (ap (λ (n : plain.Node). n.installed) mail_seen) opens.held
+
+      pub opened_works : new.reads ≡ old.reads → WholeWorks (on.seen after) new
+      opened_works reads = record {
         mail = d.works;
-        maps = has_ruled on (appends_promise (Some (next_of old)) []) (Some (next_of old)) old before new after [] works.maps (λ records. refl) d opens.own
-            (sym (ap (λ (r : rules.Reaction). r.node.boot) (started any_disk))) (ap (λ (n : plain.Node). n.installed) mail_seen) opens.held;
+        maps = opened_has;
+        reads = reads_of old new (record { own = same_own old.mail new.mail d.same; boot = d.boot }) works.reads reads;
       }
+
+      pub opened_beside : KeepsBeside old new → KeepsReads (Up (joint_seen old)) (joint_seen new)
+      opened_beside kept = idle_beside old new (sym (ap (λ (r : rules.Reaction). r.node.installed) (started any_disk))) kept
 
 pub nothing_opened : {D : Type 0} (on : View D) (nodes : ℕ) (old : WholeNode) (before : D) → nat_le greatest_epoch (node_of old.maps).heard ≡ true → OpensGroup on nodes old before old before (Err Worn)
 nothing_opened on nodes old before worn = (worn, record { as_before = as_it_was old.mail; maps = refl; untouched = refl })

@@ -29,7 +29,7 @@ use Rattle.node_core.specs.declared.fault.NodeFault.TheVariants.{NoMemory}
 use Rattle.node_core.specs.declared.node.Node.{Node}
 use Rattle.node_maps.specs.Nodes.{node_of}
 use Rattle.node_maps.specs.declared.maps.NodeMaps.{NodeMaps}
-use Rattle.whole_node.specs.Nodes.{HasMaps, KeepsNamed}
+use Rattle.whole_node.specs.Nodes.{AreReadsOf, HasMaps, HasNoReads, KeepsNamed}
 use Rattle.whole_node.specs.Restarting.{WholeStartedOver, WholeNodeStarted}
 use Rattle.whole_node.specs.declared.node.WholeNode.{WholeNode}
 use Rattle.whole_node.proofs.Holding.{own_user}
@@ -72,35 +72,32 @@ module _ {D : Type 0} (on : View D) (plan : Plan) (own : ℕ) (before after : D)
       by None holds = tt
       by (Some held) holds = λ records pending may. f records pending (holds records pending may)
 
-  module _ (mail : Node) (promise : EpochId) (its : NodeMaps) (starts : (image : maps.Disk) → image.boot + 1 ≡ (node_seen mail).boot → image.promise ≡ promise → node_of its ≡ maps_rules.started image) where
-    abbrev node : WholeNode
-    node = record { mail = mail; maps = its }
-
-    whole_over : (records pending : List Record) → PromisedOver on plan own before after mail promise records pending → WholeStartedOver on plan own before after node records pending
+  module _ (node : WholeNode) (promise : EpochId) (starts : (image : maps.Disk) → image.boot + 1 ≡ (node_seen node.mail).boot → image.promise ≡ promise → node_of node.maps ≡ maps_rules.started image) where
+    whole_over : (records pending : List Record) → PromisedOver on plan own before after node.mail promise records pending → WholeStartedOver on plan own before after node records pending
     whole_over records pending p =
         let found = records ++ p.over.starts.kept in
         let promised : promise_of found ≡ promise = sym (p.promise_is ∙ ap promise_of p.over.starts.records ∙ promise_both _ found (Boot (boot_of found + 1) ∷ [])) in
-        let booted : boot_of found + 1 ≡ (node_seen mail).boot = sym (ap (λ (n : plain.Node). n.boot) p.over.starts.is) in
-        let its_are : node_of its ≡ maps_rules.started (maps_disk_of found) = starts (maps_disk_of found) booted promised in
+        let booted : boot_of found + 1 ≡ (node_seen node.mail).boot = sym (ap (λ (n : plain.Node). n.boot) p.over.starts.is) in
+        let its_are : node_of node.maps ≡ maps_rules.started (maps_disk_of found) = starts (maps_disk_of found) booted promised in
         record {
           mail = p.over;
           starts = λ i. record { mail = p.over.starts.is i; maps = its_are i };
         }
 
-    pub whole_started : NodeStartedWith on plan own before after mail promise → HasMaps node → WholeNodeStarted on plan own before after node
-    whole_started s has = record {
+    pub whole_started : NodeStartedWith on plan own before after node.mail promise → HasMaps node → AreReadsOf node.mail node.reads → HasNoReads node → WholeNodeStarted on plan own before after node
+    whole_started s has of none = record {
       mail = s.started;
-      works = record { mail = s.started.works; maps = has };
-      over = where_it_holds (PromisedOver on plan own before after mail promise) (WholeStartedOver on plan own before after node) whole_over s.over;
+      works = record { mail = s.started.works; maps = has; reads = of };
+      blank = none;
+      over = where_it_holds (PromisedOver on plan own before after node.mail promise) (WholeStartedOver on plan own before after node) whole_over s.over;
     }
 
-  -- the same of a node that has these parts
+  -- the same of a node that has this for messages
   pub whole_started_of : (mail : Node) (promise : EpochId) (node : WholeNode) → node.mail ≡ mail
       → ((image : maps.Disk) → image.boot + 1 ≡ (node_seen mail).boot → image.promise ≡ promise → node_of node.maps ≡ maps_rules.started image)
-      → NodeStartedWith on plan own before after mail promise → HasMaps node → WholeNodeStarted on plan own before after node
-  whole_started_of mail promise node is starts s has =
-      let same : node ≡ record { mail = mail; maps = node.maps } = λ i. record { mail = is i; maps = node.maps } in
-      subst (WholeNodeStarted on plan own before after) (sym same) (whole_started mail promise node.maps starts s (subst HasMaps same has))
+      → NodeStartedWith on plan own before after mail promise → HasMaps node → AreReadsOf node.mail node.reads → HasNoReads node → WholeNodeStarted on plan own before after node
+  whole_started_of mail promise node is starts s has of none = whole_started node promise (λ image booted promised. starts image (booted ∙ ap (λ (m : Node). (node_seen m).boot) is) promised)
+      (subst (λ (m : Node). NodeStartedWith on plan own before after m promise) (sym is) s) has of none
 
   -- Memory ran out once the boot was recorded, so that its record stands.
   short_over : (mail : Node) (held : List ℕ) → on.seen after ≡ Some held → IsOnly on.clock after held → (records pending : List Record) → StartedOver on plan own before after mail records pending

@@ -17,7 +17,6 @@ use Rattle.maps_model.specs.Rules.HearsAck.{Stale as StaleAck, Clears, Other}
 use Rattle.whole_model.specs.Rules.{IsMapsBody}
 use Rattle.node_core.specs.Spelling.{CanBeTaken, AllCanBeTaken}
 use Rattle.node_core.proofs.Sending.{one_fits, none_fit}
-use Rattle.node_core.specs.Weights.{weight_of_body, weight_of_all}
 use Rattle.whole_node.specs.Hearing.{FitsMaps, is_install}
 
 -- letters that fit
@@ -31,10 +30,9 @@ pub more_taken : (letter : Letter) (letters : List Letter) → CanBeTaken letter
 more_taken letter letters fits all = All-cons (λ (l : Letter). CanBeTaken l.body) letter letters fits all
 
 -- what a node says to a letter
-pub record AreSaid (body : Body) (out : List Letter) : Type 0 where
+pub record AreSaid (out : List Letter) : Type 0 where
   pub fits : All FitsMaps out
   pub taken : AllCanBeTaken out
-  pub light : weight_of_all out < weight_of_body body
 
 module _ (own : ℕ) (node : maps.Node) (disk : maps.Disk) (letter : Letter) (did : rules.Reaction) where
   pub hears_boot : (body : Body) → IsMapsBody body → rules.Hears own node disk letter body did → did.node.boot ≡ node.boot
@@ -72,27 +70,27 @@ module _ (own : ℕ) (node : maps.Node) (disk : maps.Disk) (letter : Letter) (di
   hears_epoch (ReportAck user version) of none (Other g a b c e) = ap (λ (x : rules.Reaction). x.node.installed) e
   hears_epoch other of none h = absurd of
 
-  nothing : (body : Body) → 0 < weight_of_body body → (r : rules.Reaction) → did ≡ r → r.out ≡ [] → AreSaid body did.out
-  nothing body some r e none = subst (AreSaid body) (sym (ap (λ (x : rules.Reaction). x.out) e ∙ none)) (record { fits = none_says; taken = none_fit; light = some })
+  nothing : (r : rules.Reaction) → did ≡ r → r.out ≡ [] → AreSaid did.out
+  nothing r e none = subst AreSaid (sym (ap (λ (x : rules.Reaction). x.out) e ∙ none)) (record { fits = none_says; taken = none_fit })
 
-  one : (body : Body) (answer : Letter) → weight_of_body answer.body + 0 < weight_of_body body → FitsMaps answer → CanBeTaken answer.body → (r : rules.Reaction) → did ≡ r → r.out ≡ answer ∷ [] → AreSaid body did.out
-  one body answer less fits taken r e is = subst (AreSaid body) (sym (ap (λ (x : rules.Reaction). x.out) e ∙ is)) (record { fits = more_says answer [] fits none_says; taken = one_fits answer taken; light = less })
+  one : (answer : Letter) → FitsMaps answer → CanBeTaken answer.body → (r : rules.Reaction) → did ≡ r → r.out ≡ answer ∷ [] → AreSaid did.out
+  one answer fits taken r e is = subst AreSaid (sym (ap (λ (x : rules.Reaction). x.out) e ∙ is)) (record { fits = more_says answer [] fits none_says; taken = one_fits answer taken })
 
-  pub are_said : (body : Body) → IsMapsBody body → rules.Hears own node disk letter body did → AreSaid body did.out
-  are_said (Group epoch) of (Rises below e) = one (Group epoch) _ (omega arith) (tt, tt) tt _ e refl
-  are_said (Group epoch) of (Again same e) = one (Group epoch) _ (omega arith) (tt, tt) tt _ e refl
-  are_said (Group epoch) of (OldGroup below e) = one (Group epoch) _ (omega arith) (tt, tt) tt _ e refl
-  are_said (Join epoch promise boot was claims) of (Late n e) = nothing (Join epoch promise boot was claims) (omega arith) _ e refl
-  are_said (Join epoch promise boot was claims) of (Above g a b c e) = nothing (Join epoch promise boot was claims) (omega arith) _ e refl
-  are_said (Join epoch promise boot was claims) of (Joins g a b c e) = nothing (Join epoch promise boot was claims) (omega arith) _ e refl
-  are_said (Install g) of (OldInstall w e) = nothing (Install g) (omega arith) _ e refl
-  are_said (Install g) of (NotPromised w e) = nothing (Install g) (omega arith) _ e refl
-  are_said (Install g) of (NotMember w e) = nothing (Install g) (omega arith) _ e refl
-  are_said (Install g) of (Enters a b c marked rows entering e) = nothing (Install g) (omega arith) _ e refl
-  are_said (Report row) of (StaleReport n e) = nothing (Report row) (omega arith) _ e refl
-  are_said (Report row) of (Takes g a b c e) = one (Report row) (ack_letter letter row.user row) (omega arith) (tt, tt) tt _ e refl
-  are_said (Report row) of (Older g a b s c d e) = one (Report row) (ack_letter letter row.user row) (omega arith) (tt, tt) tt _ e refl
-  are_said (ReportAck user version) of (StaleAck n e) = nothing (ReportAck user version) (omega arith) _ e refl
-  are_said (ReportAck user version) of (Clears g a b c e) = nothing (ReportAck user version) (omega arith) _ e refl
-  are_said (ReportAck user version) of (Other g a b c e) = nothing (ReportAck user version) (omega arith) _ e refl
+  pub are_said : (body : Body) → IsMapsBody body → rules.Hears own node disk letter body did → AreSaid did.out
+  are_said (Group epoch) of (Rises below e) = one _ (tt, tt) tt _ e refl
+  are_said (Group epoch) of (Again same e) = one _ (tt, tt) tt _ e refl
+  are_said (Group epoch) of (OldGroup below e) = one _ (tt, tt) tt _ e refl
+  are_said (Join epoch promise boot was claims) of (Late n e) = nothing _ e refl
+  are_said (Join epoch promise boot was claims) of (Above g a b c e) = nothing _ e refl
+  are_said (Join epoch promise boot was claims) of (Joins g a b c e) = nothing _ e refl
+  are_said (Install g) of (OldInstall w e) = nothing _ e refl
+  are_said (Install g) of (NotPromised w e) = nothing _ e refl
+  are_said (Install g) of (NotMember w e) = nothing _ e refl
+  are_said (Install g) of (Enters a b c marked rows entering e) = nothing _ e refl
+  are_said (Report row) of (StaleReport n e) = nothing _ e refl
+  are_said (Report row) of (Takes g a b c e) = one (ack_letter letter row.user row) (tt, tt) tt _ e refl
+  are_said (Report row) of (Older g a b s c d e) = one (ack_letter letter row.user row) (tt, tt) tt _ e refl
+  are_said (ReportAck user version) of (StaleAck n e) = nothing _ e refl
+  are_said (ReportAck user version) of (Clears g a b c e) = nothing _ e refl
+  are_said (ReportAck user version) of (Other g a b c e) = nothing _ e refl
   are_said other of h = absurd of

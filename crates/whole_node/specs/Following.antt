@@ -5,7 +5,6 @@ use Rattle.mail_model.specs.Record.{Record}
 use Rattle.object_model.specs.Letters.{Number, Letter}
 use Rattle.cluster_model.specs.Makes.{begun_by}
 use Rattle.cluster_model.specs.Steps.{NodeCall, fails_at_once}
-use Rattle.cluster_model.specs.Steps.NodeCall.{Deliver, Login, Fetch, Strike, Leave}
 use Rattle.whole_model.specs.Rules.{follows}
 use Rattle.node_maps.specs.Nodes.{node_of, own_of}
 use Rattle.node_core.specs.Nodes.{node_seen, NodeKeeps}
@@ -43,18 +42,9 @@ abbrev pub FollowsLetter : Rule → Result Outbox NodeFault → WholeNode → Wh
 FollowsLetter rule (Ok outbox) old new = FollowsOrThrows rule outbox.thrown old new
 FollowsLetter rule (Err fault) old new = MapsStay fault old new
 
--- calls that file and delete nothing
-abbrev pub FilesNothing : NodeCall → Type 0
-FilesNothing (Deliver mail) = ⊥
-FilesNothing (Login user proof) = ⊤
-FilesNothing (Fetch user id from most) = ⊤
-FilesNothing (Strike user items) = ⊥
-FilesNothing (Leave user) = ⊤
-
--- A call that fails at once changes no maps, nor does one that files and deletes nothing. Where its rule was done they follow it.
+-- A call that fails at once changes no maps. Where its rule was done they follow it.
 pub record CallFollowed {D : Type 0} (on : View D) (plan : Plan) (own seconds : ℕ) (call : NodeCall) (old : WholeNode) (before : D) (new : WholeNode) (after : D) : Type 0 where
   pub at_once : fails_at_once plan seconds (node_seen old.mail) call ≡ true → new.maps ≡ old.maps
-  pub reads : FilesNothing call → new.maps ≡ old.maps
   pub goes : fails_at_once plan seconds (node_seen old.mail) call ≡ false → (octets : List ℕ) (sent : List Letter)
       → NodeDid on (λ node disk. begun_by plan (at_second seconds) own node disk call octets) old.mail before new.mail after sent
       → MapsFollow (λ node disk. begun_by plan (at_second seconds) own node disk call octets) old new

@@ -8,3 +8,7 @@ pub mod Hearing
 pub mod Grouping
 pub mod Reporting
 pub mod Settling
+pub mod Reading
+pub mod ReadTickets
+pub mod HearingReads
+pub mod Beginning

@@ -6,7 +6,7 @@ use Rattle.whole_world.specs.Makes.{started}
 use Rattle.node_store.specs.Disks.{View}
 use Rattle.node_core.specs.Starting.{WhereItHolds, StartedOver, NodeStarted, NodeStarts}
 use Rattle.node_core.specs.declared.fault.NodeFault.{NodeFault}
-use Rattle.whole_node.specs.Nodes.{whole_seen, WholeWorks}
+use Rattle.whole_node.specs.Nodes.{whole_seen, WholeWorks, HasNoReads}
 use Rattle.whole_node.specs.declared.node.WholeNode.{WholeNode}
 
 module _ {D : Type 0} (on : View D) (plan : Plan) (own : ℕ) (before after : D) where
@@ -18,6 +18,7 @@ module _ {D : Type 0} (on : View D) (plan : Plan) (own : ℕ) (before after : D)
   pub record WholeNodeStarted (node : WholeNode) : Type 0 where
     pub mail : NodeStarted on plan own before after node.mail
     pub works : WholeWorks (on.seen after) node
+    pub blank : HasNoReads node
     pub over : WhereItHolds on before own (WholeStartedOver node)
 
   -- what a start leaves

@@ -18,7 +18,7 @@ use Rattle.node_core.specs.declared.fault.NodeFault.{NodeFault}
 use Rattle.node_core.specs.declared.node.Node.{Node}
 use Rattle.node_maps.specs.Nodes.{node_of, own_of, holds_in}
 use Rattle.node_maps.specs.declared.maps.NodeMaps.{NodeMaps}
-use Rattle.whole_node.specs.Nodes.{HasMaps}
+use Rattle.whole_node.specs.Nodes.{AreReadsOf, HasMaps, HasNoReads, KeepsBeside}
 use Rattle.whole_node.specs.declared.node.WholeNode.{WholeNode}
 
 -- who manages each bucket in the first epoch: the buckets are spread evenly over all nodes, as where nobody claims any
@@ -50,12 +50,15 @@ pub record EntersEpoch (membership : Membership) (old new : WholeNode) : Type 0 
   pub own : own_of new.maps ≡ own_of old.maps
   pub boot : (node_of new.maps).boot ≡ (node_of old.maps).boot
   pub held : new.maps.fragments ≡ old.maps.fragments
+  pub beside : KeepsBeside old new
 
--- its maps have promised the first epoch, and have no open group
+-- its maps have promised the first epoch, and have no open group; it has no tickets of calls that read, and no locks
 pub record HasFirstMaps (node : WholeNode) : Type 0 where
   pub promise : (node_of node.maps).promise ≡ first_epoch
   pub none_open : (node_of node.maps).group ≡ None
   pub has_maps : HasMaps node
+  pub reads : AreReadsOf node.mail node.reads
+  pub blank : HasNoReads node
 
 -- it has entered the first epoch
 pub record HasEnteredFirst (plan : Plan) (before : Node) (node : WholeNode) : Type 0 where

@@ -8,6 +8,9 @@ ghost use Rattle.maps_model.specs.Cluster.{NamesNode};
 ghost use Rattle.node_store.specs.Disks.{view_of};
 ghost use Rattle.node_maps.specs.Nodes.{node_of, own_of};
 ghost use Rattle.node_maps.specs.Hearing.{IsDue};
+ghost use Rattle.joint_model.specs.Joint.Life.{Down};
+ghost use Rattle.joint_world.specs.Staying.{KeepsReads};
+ghost use Rattle.whole_node.specs.Nodes.{joint_seen};
 ghost use Rattle.whole_node.specs.Starting.{first_map, HasPromisedFirst, EntersEpoch, HasEnteredFirst, StartsFirstWhole};
 
 use crate::node::WholeNode;
@@ -119,6 +122,7 @@ impl WholeNode {
         requires few { plan.now.nodes ≤ 16 }
         requires copies { 1 ≤ plan.now.copies }
         ensures starts { StartsFirstWhole (view_of D.seen D.faults D.clock) plan.now number disk.old disk.new result }
+        ensures beside { IfOk result (λ node. KeepsReads (Down []) (joint_seen node)) }
         ensures told { IsToldAlike (D.seen disk.old) (D.seen disk.new) }
         ensures faults { D.faults disk.old ≤ D.faults disk.new }
         ensures settled { OnOk result (D.settled disk.new) }

@@ -2,7 +2,9 @@
 ghost use Rattle.std.specs.Prelude.{◌≡◌, ◌≤◌, ◌<◌, ℕ, List, Option, reverse};
 ghost use Rattle.node_store.specs.Disks.{view_of};
 ghost use Rattle.node_core.specs.Works.{LeavesUp};
-ghost use Rattle.whole_node.specs.Nodes.{WholeWorks};
+ghost use Rattle.joint_model.specs.Joint.Life.{Up};
+ghost use Rattle.joint_world.specs.Staying.{KeepsReads};
+ghost use Rattle.whole_node.specs.Nodes.{joint_seen, KeepsBeside, WholeWorks};
 ghost use Rattle.whole_node.specs.Grouping.{OpensGroup, ConcludesBoth, ConcludesGroup};
 
 use crate::node::WholeNode;
@@ -46,6 +48,7 @@ impl WholeNode {
         requires works { WholeWorks (D.seen disk.old) self.old }
         requires few { nodes ≤ 16 }
         ensures opens { OpensGroup (view_of D.seen D.faults D.clock) nodes self.old disk.old self.new disk.new result }
+        ensures beside { LeavesUp result → KeepsReads (Up (joint_seen self.old)) (joint_seen self.new) }
         ensures works { LeavesUp result → WholeWorks (D.seen disk.new) self.new }
         ensures settled { LeavesUp result → D.settled disk.old → D.settled disk.new }
     {
@@ -70,7 +73,8 @@ impl WholeNode {
         buckets: u32,
     ) -> Result<Option<Concluded>, AllocError>
         requires some { 0 < buckets }
-        ensures { ConcludesBoth buckets result self.old self.new }
+        ensures concludes { ConcludesBoth buckets result self.old self.new }
+        ensures beside { KeepsBeside self.old self.new }
     {
         match self.maps.conclude(alloc, buckets)? {
             Some(done) => {
@@ -82,7 +86,7 @@ impl WholeNode {
     }
 
     /// Concludes the open group: those who joined are the members, and each of so many buckets gets its manager. Messages go by
-    /// its epoch from now on. Nothing exactly where no group is open, and nothing changes.
+    /// its epoch from now on, and all locks of an earlier one are let go. Nothing exactly where no group is open, and nothing changes.
     ///
     /// # Errors
     ///
@@ -90,10 +94,15 @@ impl WholeNode {
     pub fn conclude(&mut self, alloc: Global, buckets: u32) -> Result<Option<Concluded>, NodeFault>
         requires some { 0 < buckets }
         ensures concludes { (seen : Option (List ℕ)) → WholeWorks seen self.old → ConcludesGroup buckets result self.old self.new }
+        ensures beside { (seen : Option (List ℕ)) → WholeWorks seen self.old → LeavesUp result → KeepsReads (Up (joint_seen self.old)) (joint_seen self.new) }
         ensures works { (seen : Option (List ℕ)) → WholeWorks seen self.old → LeavesUp result → WholeWorks seen self.new }
     {
+        let epoch = self.mail.epoch();
         match self.conclude_both(alloc, buckets) {
-            Ok(done) => Ok(done),
+            Ok(done) => {
+                self.keep_locks(epoch);
+                Ok(done)
+            }
             Err(AllocError) => Err(NodeFault::NoMemory { down: true }),
         }
     }

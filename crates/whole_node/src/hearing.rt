@@ -1,5 +1,5 @@
 //! Letters of membership and maps.
-ghost use Rattle.std.specs.Prelude.{◌≡◌, ◌↔◌, ◌<◌, ◌||◌, [], Some, All, IfOk, IsTrue, option_map};
+ghost use Rattle.std.specs.Prelude.{◌≡◌, ◌↔◌, ◌||◌, [], Some, All, IfOk, IsTrue, option_map};
 ghost use Rattle.mail_base.specs.Bodies.{body_seen};
 ghost use Rattle.whole_model.specs.Rules.{IsMapsBody};
 ghost use Rattle.whole_world.specs.Makes.{promise_by};
@@ -8,11 +8,12 @@ ghost use Rattle.node_maps.specs.Nodes.{node_of};
 ghost use Rattle.node_maps.specs.Hearing.{TellsOwnRow};
 ghost use Rattle.node_core.specs.Nodes.{CanWork};
 ghost use Rattle.node_core.specs.Hearing.{why_seen};
-ghost use Rattle.node_core.specs.Weights.{weight_of, weight_of_all};
 ghost use Rattle.node_core.specs.Works.{LeavesUp};
 ghost use Rattle.node_core.specs.declared.fault.NodeFault.TheVariants.{NoMemory};
 ghost use Rattle.node_core.specs.declared.outbox.Why.TheVariants.{Stale};
-ghost use Rattle.whole_node.specs.Nodes.{WholeWorks};
+ghost use Rattle.joint_model.specs.Joint.Life.{Up};
+ghost use Rattle.joint_world.specs.Staying.{KeepsReads};
+ghost use Rattle.whole_node.specs.Nodes.{joint_seen, KeepsBeside, WholeWorks};
 ghost use Rattle.whole_node.specs.Hearing.{NamesANode, FitsMaps, why_refused, is_install, MakesPromise, TakesLetter, HearsOfMaps};
 
 use crate::node::WholeNode;
@@ -177,6 +178,7 @@ impl WholeNode {
         requires named { NamesANode (body_seen body.now) }
         ensures promises { MakesPromise (view_of D.seen D.faults D.clock) (promise_by (node_of self.old.maps) (body_seen body.now)) result self.old disk.old self.new disk.new }
         ensures maps { self.new.maps ≡ self.old.maps }
+        ensures beside { KeepsBeside self.old self.new }
         ensures settled { LeavesUp result → D.settled disk.old → D.settled disk.new }
     {
         match self.maps.promise_due(body) {
@@ -192,7 +194,8 @@ impl WholeNode {
     // maps have.
     fn take_letter(&mut self, alloc: Global, letter: &Letter) -> Result<Outbox, AllocError>
         requires row { TellsOwnRow letter.now.from letter.now.body }
-        ensures { TakesLetter letter.now result self.old self.new }
+        ensures takes { TakesLetter letter.now result self.old self.new }
+        ensures beside { KeepsBeside self.old self.new }
     {
         let answer = self.maps.hear(alloc, letter)?;
         self.share_after(&letter.body)?;
@@ -202,7 +205,7 @@ impl WholeNode {
 
     /// Hears a letter of membership or maps that is for this node, or throws it. One that is of another epoch is thrown before
     /// the node looks at it. Where it makes the node promise an epoch, the record of it is appended and synced before anything
-    /// is said. A Group that is old is thrown, and answered all the same.
+    /// is said. A Group that is old is thrown, and answered all the same. Where another epoch is installed all locks are let go.
     ///
     /// # Errors
     ///
@@ -218,17 +221,21 @@ impl WholeNode {
         requires kind { IsMapsBody letter.now.body }
         requires fits { FitsMaps letter.now }
         ensures hears { HearsOfMaps (view_of D.seen D.faults D.clock) letter.now self.old disk.old self.new disk.new result }
+        ensures beside { LeavesUp result → KeepsReads (Up (joint_seen self.old)) (joint_seen self.new) }
         ensures works { LeavesUp result → WholeWorks (D.seen disk.new) self.new }
         ensures fits { IfOk result (λ outbox. All FitsMaps outbox.letters) }
-        ensures light { IfOk result (λ outbox. weight_of_all outbox.letters < weight_of letter.now) }
         ensures settled { LeavesUp result → D.settled disk.old → D.settled disk.new }
     {
         if self.mail.is_stale(letter) {
             return Ok(stale(alloc));
         }
+        let epoch = self.mail.epoch();
         let promised = self.promise_for(alloc, disk, &letter.body)?;
         match self.take_letter(alloc, letter) {
-            Ok(outbox) => Ok(outbox),
+            Ok(outbox) => {
+                self.keep_locks(epoch);
+                Ok(outbox)
+            }
             Err(AllocError) => Err(no_memory(goes_down(promised, &letter.body))),
         }
     }

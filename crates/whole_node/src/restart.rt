@@ -1,5 +1,5 @@
 //! A node that starts over its disk.
-ghost use Rattle.std.specs.Prelude.{◌≡◌, ◌≤◌, ◌+◌, List, None, IfOk, OnOk};
+ghost use Rattle.std.specs.Prelude.{◌≡◌, ◌≤◌, ◌+◌, List, [], None, IfOk, OnOk};
 ghost use Rattle.io_edge.specs.Octets.{IsToldAlike};
 ghost use Rattle.mail_model.specs.Record.{Record};
 ghost use Rattle.maps_model.specs.Cluster.{Disk as PlainDisk};
@@ -7,7 +7,9 @@ ghost use Rattle.maps_model.specs.Rules.{started};
 ghost use Rattle.node_store.specs.Disks.{view_of};
 ghost use Rattle.node_core.specs.Nodes.{node_seen, NodeKeeps, IsWhole};
 ghost use Rattle.node_maps.specs.Nodes.{node_of};
-ghost use Rattle.whole_node.specs.Nodes.{HasMaps};
+ghost use Rattle.joint_model.specs.Joint.Life.{Down};
+ghost use Rattle.joint_world.specs.Staying.{KeepsReads};
+ghost use Rattle.whole_node.specs.Nodes.{joint_seen, AreReadsOf, HasMaps, HasNoReads};
 ghost use Rattle.whole_node.specs.Restarting.{StartsWhole};
 
 use crate::node::WholeNode;
@@ -23,6 +25,8 @@ fn with_maps(alloc: Global, mail: Node, promise: EpochId) -> Result<WholeNode, A
     requires some { (records : List Record) × NodeKeeps records mail }
     ensures mail { IfOk result (λ node. node.mail ≡ mail) }
     ensures has_maps { IfOk result (λ node. HasMaps node) }
+    ensures reads { IfOk result (λ node. AreReadsOf node.mail node.reads) }
+    ensures blank { IfOk result (λ node. HasNoReads node) }
     ensures starts { IfOk result (λ node. (image : PlainDisk) → image.boot + 1 ≡ (node_seen mail).boot → image.promise ≡ promise → node_of node.maps ≡ started image) }
 {
     let users = mail.users(alloc)?;
@@ -48,6 +52,7 @@ impl WholeNode {
         requires few { plan.now.nodes ≤ 16 }
         requires copies { 1 ≤ plan.now.copies }
         ensures starts { StartsWhole (view_of D.seen D.faults D.clock) plan.now number disk.old disk.new result }
+        ensures beside { IfOk result (λ node. KeepsReads (Down []) (joint_seen node)) }
         ensures told { IsToldAlike (D.seen disk.old) (D.seen disk.new) }
         ensures faults { D.faults disk.old ≤ D.faults disk.new }
         ensures settled { OnOk result (D.settled disk.new) }

@@ -13,12 +13,14 @@ ghost use Rattle.mailbox_fragment.specs.Here.{is_here_in, has_id};
 ghost use Rattle.map_rebuild.specs.Users.{has_user};
 ghost use Rattle.node_core.specs.Nodes.{node_seen, NodeKeeps, IsWhole};
 ghost use Rattle.node_maps.specs.Nodes.{node_of, own_of};
-ghost use Rattle.whole_node.specs.Nodes.{HasMaps, KeepsNamed};
+ghost use Rattle.whole_node.specs.Nodes.{AreMapsOf, AreReadsOf, HasMaps, HasNoReads, KeepsNamed};
 
 use crate::node::WholeNode;
+use drop_lock::Locks;
 use mail_base::{EpochId, MsgId, Name};
 use node_core::Node;
 use node_maps::NodeMaps;
+use node_reads::NodeReads;
 use std::alloc::{AllocError, Global};
 
 // Finds these messages of the user.
@@ -73,7 +75,7 @@ fn maps_over(
     requires whole { IsWhole mail.now }
     requires without { (node_seen mail.now).installed ≡ None }
     requires named { KeepsNamed users.now mail.now }
-    ensures has_maps { IfOk result (λ maps. HasMaps (record { mail = mail.now; maps = maps })) }
+    ensures has_maps { IfOk result (λ maps. AreMapsOf mail.now maps) }
     ensures starts { IfOk result (λ maps. (image : PlainDisk) → image.boot + 1 ≡ (node_seen mail.now).boot → image.promise ≡ promise → node_of maps ≡ started image) }
 {
     let mut maps = NodeMaps::new(alloc, mail.own(), mail.boot(), promise);
@@ -81,9 +83,25 @@ fn maps_over(
     Ok(maps)
 }
 
+// The node with these halves, without tickets of calls that read, and without locks.
+fn with_nothing(alloc: Global, mail: Node, maps: NodeMaps) -> WholeNode
+    ensures mail { result.mail ≡ mail }
+    ensures maps { result.maps ≡ maps }
+    ensures reads { AreReadsOf mail result.reads }
+    ensures blank { HasNoReads result }
+{
+    let reads = NodeReads::new(alloc, mail.own(), mail.boot());
+    WholeNode {
+        mail,
+        maps,
+        reads,
+        locks: Locks::new(alloc),
+    }
+}
+
 impl WholeNode {
     /// A node that has just started, with the maps that its disk says: no epoch, the promise of the disk, versions 0, nothing
-    /// due, and each message that is here. The promise is that of the last Promise record, and the users are those of whom the
+    /// due, and each message that is here. It has no tickets and no locks. The promise is that of the last Promise record, and the users are those of whom the
     /// disk says that a message is here; others among them do no harm.
     ///
     /// It costs a look at each object of these users.
@@ -102,10 +120,12 @@ impl WholeNode {
         requires named { KeepsNamed users.now mail }
         ensures mail { IfOk result (λ node. node.mail ≡ mail) }
         ensures has_maps { IfOk result (λ node. HasMaps node) }
+        ensures reads { IfOk result (λ node. AreReadsOf node.mail node.reads) }
+        ensures blank { IfOk result (λ node. HasNoReads node) }
         ensures starts { IfOk result (λ node. (image : PlainDisk) → image.boot + 1 ≡ (node_seen mail).boot → image.promise ≡ promise → node_of node.maps ≡ started image) }
     {
         match maps_over(alloc, &mail, promise, users) {
-            Ok(maps) => Ok(WholeNode { mail, maps }),
+            Ok(maps) => Ok(with_nothing(alloc, mail, maps)),
             Err(AllocError) => Err(AllocError),
         }
     }

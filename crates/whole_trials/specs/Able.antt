@@ -22,3 +22,7 @@ left_by (Err Disk) node = None
 left_by (Err Worn) node = Some node
 left_by (Err (NoMemory true)) node = None
 left_by (Err (NoMemory false)) node = Some node
+
+-- so it is over some disk
+abbrev pub IsAbleOver : Option WholeNode → Type 0
+IsAbleOver node = (seen : Option (List ℕ)) × IsAble seen node

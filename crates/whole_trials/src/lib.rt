@@ -1,4 +1,4 @@
-//! whole_trials: tables of whole nodes that form epochs over their disks.
+//! whole_trials: tables of whole nodes that form epochs, and let users read their mail.
 //!
 //! SUMMARY
 //!
@@ -12,6 +12,7 @@
 //! | `tests/rounds.rt` | groups that are opened, joined and concluded; two coordinators at once; letters that are thrown, each for its reason |
 //! | `tests/stops.rt` | nodes that stop between two steps of a round, and disks that fail as a promise is written |
 //! | `tests/rows.rt` | mail that is filed and the rows that follow it, up to the manager that names who has it |
+//! | `tests/readers.rt` | logins and fetches: a node as manager, as holder and as the proxy of a session; letters that are lost, heard twice and of another epoch; nodes that stop; locks |
 //! | `tests/orders.rt` | no table: all orders of the letters of two groups, with a node that stops in the midst, too. Each epoch has one membership |
 //!
 //! STANDS ON

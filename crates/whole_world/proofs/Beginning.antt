@@ -3,7 +3,7 @@ use Rattle.mail_model.specs.Identity.{Id, EpochId}
 use Rattle.mail_model.specs.Plan.{Plan}
 use Rattle.mail_model.specs.Record.{Record}
 use Rattle.object_model.specs.Lists.{Among}
-use Rattle.object_model.specs.Letters.{Membership, Body, Letter}
+use Rattle.object_model.specs.Letters.{Membership, Body, Letter, is_read_body}
 use Rattle.object_model.specs.Letters.Body.{Group, Join, Install, Report, ReportAck}
 use Rattle.cluster_model.specs.Cluster as mail_cluster
 use Rattle.cluster_model.specs.Room.{Flight}
@@ -49,7 +49,7 @@ use Rattle.whole_world.specs.Steps.{step_fault}
 use Rattle.std.specs.Option.{option_map}
 use Rattle.whole_world.specs.Steps.Step.{OfMessages, ConcludeGroup}
 use Rattle.whole_world.specs.Steps.StepFault.{Fault}
-use Rattle.whole_world.specs.Epochs.{HadInstalled, HearsInstall, AreLosses}
+use Rattle.whole_world.specs.Epochs.{HadInstalled, HearsInstall, AreLosses, LosesLetter}
 use Rattle.object_model.proofs.Lists.{among_front, among_behind}
 use Rattle.object_model.specs.Mishaps.MishapKind.{Stale as StaleKind}
 use Rattle.cluster_model.specs.Deeds as mail_deeds
@@ -265,8 +265,8 @@ pub post_worn : (plan : Plan) (w : World) (flight : Flight) (keep : Bool) → Am
 post_worn plan w flight keep m = by (is_some (mail_steps.letter_at flight.number w.flying)) (letter_found w.flying flight m) ((true && nat_le mail_steps.letters_end w.sent) || false)
   where
     by : (a : Bool) → a ≡ true → (b : Bool)
-        → (option_map Fault (mail_steps.first_fault (None ∷ None ∷ (if a then None else Some NoSuchLetter) ∷ None ∷ (if b then Some Worn else None) ∷ None ∷ [])) ≡ None)
-        ⊎ (option_map Fault (mail_steps.first_fault (None ∷ None ∷ (if a then None else Some NoSuchLetter) ∷ None ∷ (if b then Some Worn else None) ∷ None ∷ [])) ≡ Some (Fault Worn))
+        → (option_map Fault (mail_steps.first_fault (None ∷ None ∷ (if a then None else Some NoSuchLetter) ∷ (if b then Some Worn else None) ∷ None ∷ [])) ≡ None)
+        ⊎ (option_map Fault (mail_steps.first_fault (None ∷ None ∷ (if a then None else Some NoSuchLetter) ∷ (if b then Some Worn else None) ∷ None ∷ [])) ≡ Some (Fault Worn))
     by true e true = inr refl
     by true e false = inl refl
     by false e b = absurd (true≢false (sym e))
@@ -324,12 +324,42 @@ module _ (plan : Plan) (tells : Bool) (old new : World) (number : ℕ) (flies : 
       clash : Some Stale ≡ None → ⊥
       clash h = cc
 
-  pub stale_changes : MakesStep plan tells old (OfMessages (Post number keep)) (Says said) new
-      → (said ≡ Told (Thrown Stale)) × (mail_world_of new ≡ mail_makes.lost_letter StaleKind (mail_world_of old) number flies keep) × FollowsAlong old new
-  stale_changes (fits, ForMessages one step answer says for_mail does follow) =
-      let p = posts_stale answer (subst (λ (k : mail_steps.Step). mail_makes.DoesStep plan tells (mail_world_of old) k answer (mail_world_of new)) (inside one step) does) in
-      (says ∙ ap Told p.0, p.1, follow)
+  -- one of a call that reads
+  reads_stale : (answer : mail_steps.Said) → mail_makes.PostsRead (mail_world_of old) number keep answer (mail_world_of new)
+      → (answer ≡ Thrown Stale) × (is_read_body flies.letter.body ≡ true) × mail_makes.GoesOnReading (record (mail_world_of old) { flying = mail.flies_on (mail_world_of old) number flies keep }) (mail_world_of new)
+  reads_stale answer (mail_makes.PostsRead.NobodyUp f of nobody told g) = absurd (nobody node.mail disk (subst (λ (k : Letter). mail_makes.IsUp (mail_world_of old) k.to node.mail disk) (same_letter f).0 seen_up))
+  reads_stale answer (mail_makes.PostsRead.OfOtherEpoch f b e of there thrown told g) = (
+    told,
+    subst (λ (k : Letter). is_read_body k.body ≡ true) (sym (same_letter f).0) of,
+    subst (λ (l : List Flight). mail_makes.GoesOnReading (record (mail_world_of old) { flying = l }) (mail_world_of new)) (by keep) g,
+  )
     where
+      by : (k : Bool) → mail.flies_on (mail_world_of old) number f k ≡ mail.flies_on (mail_world_of old) number flies k
+      by true = refl
+      by false = λ i. sym (same_letter f).1 i ++ sym (same_letter f).2 i
+  reads_stale answer (mail_makes.PostsRead.TooLate f b e of there fresh late told is) = absurd (true≢false (sym (stale_is b f.letter (same_letter f).0 (mail_same node.mail b disk e f.letter (same_letter f).0 there)) ∙ fresh))
+  reads_stale answer (mail_makes.PostsRead.IsHeard f b e of there fresh told g) = absurd (true≢false (sym (stale_is b f.letter (same_letter f).0 (mail_same node.mail b disk e f.letter (same_letter f).0 there)) ∙ fresh))
+  reads_stale answer (mail_makes.PostsRead.FailsForReads f b e of there fresh told g) = absurd (true≢false (sym (stale_is b f.letter (same_letter f).0 (mail_same node.mail b disk e f.letter (same_letter f).0 there)) ∙ fresh))
+
+  posted_same : (answer : mail_steps.Said) → (posts : mail_makes.Posts plan (mail_world_of old) number keep answer (mail_world_of new)) → mail_makes.posted_letter posts ≡ flies.letter
+  posted_same answer (NobodyUp f nobody told is) = sym (same_letter f).0
+  posted_same answer (OfOtherEpoch f b e there thrown told is) = sym (same_letter f).0
+  posted_same answer (TooLate f b e there thrown told is) = sym (same_letter f).0
+  posted_same answer (IsHeard f b e there thrown told is) = sym (same_letter f).0
+  posted_same answer (MailFails f b e there thrown told down g is) = sym (same_letter f).0
+  posted_same answer (IsForMaps f b e there of fresh told did forms is) = sym (same_letter f).0
+  posted_same answer (FailsForMaps f b e promise there of fresh told down g is) = sym (same_letter f).0
+
+  pub stale_changes : MakesStep plan tells old (OfMessages (Post number keep)) (Says said) new
+      → (said ≡ Told (Thrown Stale)) × LosesLetter StaleKind (mail_world_of old) number flies keep (mail_world_of new) × FollowsAlong old new
+  stale_changes (fits, ForMessages one step answer says for_mail does follow) =
+      either (subst (λ (k : mail_steps.Step). mail_makes.DoesStep plan tells (mail_world_of old) k answer (mail_world_of new)) (inside one step) does)
+    where
+      either : mail_makes.DoesStep plan tells (mail_world_of old) (Post number keep) answer (mail_world_of new)
+          → (said ≡ Told (Thrown Stale)) × LosesLetter StaleKind (mail_world_of old) number flies keep (mail_world_of new) × FollowsAlong old new
+      either (inl d) = let p = posts_stale answer d.0 in (says ∙ ap Told p.0, inl (subst (λ (k : Letter). is_read_body k.body ≡ false) (posted_same answer d.0) d.1, p.1), follow)
+      either (inr d) = let p = reads_stale answer d in (says ∙ ap Told p.0, inr (p.1, p.2), follow)
+
       inside : (k : mail_steps.Step) → OfMessages (Post number keep) ≡ OfMessages k → k ≡ Post number keep
       inside k e = cc
   stale_changes (fits, PostsMaps other kept step h) = absurd (by (subst (λ k. HearsMaps old k kept said new) (inside other kept step) h))

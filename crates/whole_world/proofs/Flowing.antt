@@ -151,7 +151,7 @@ module _ (plan : Plan) (tells : Bool) (g : Membership) (old new : World) (stands
   post_within number said (fits, ForMessages one step answer says for_mail does follow) fine =
       let posts : mail_makes.DoesStep plan tells (mail_world_of old) (Post number false) answer (mail_world_of new) = subst (λ (k : mail_steps.Step). mail_makes.DoesStep plan tells (mail_world_of old) k answer (mail_world_of new)) (inside one step) does in
       let plain = steps_plain (mail_world_of old) (mail_world_of new) (apart plan old stands) plan tells (Post number false) answer (λ n e. not_start n e) (of_mail old (Post number false) (subst (IsForMessages old) (inside one step) for_mail)) posts in
-      let s = plain_stays old new plain follow (posts_up (mail_world_of old) (mail_world_of new) plan number false answer (λ n e. fine n (says ∙ ap Told e)) posts) in
+      let s = plain_stays old new plain follow (posts_up (mail_world_of old) (mail_world_of new) plan tells number false answer (λ n e. fine n (says ∙ ap Told e)) posts) in
       record {
         ups = λ n node disk up i. let k = s.ups n node disk up in (k.0, k.1, k.2, k.3, k.4 ∙ i);
         most = λ before letter m other e. ⊎_elim (λ stood. before letter stood other e) (λ (sent : IsMailOf (mail_world_of old) letter). absurd (mail_no_install letter.body sent.mail.body other e)) (plain.letters letter m);

@@ -6,27 +6,28 @@ use Rattle.mail_model.specs.Plan.{Plan}
 use Rattle.mail_model.specs.Record.{Record}
 use Rattle.mail_model.specs.Book.BookEntry.{CameUp, WentDown}
 use Rattle.object_model.specs.Lists.{Among}
-use Rattle.object_model.specs.Letters.{Letter}
+use Rattle.object_model.specs.Letters.{Body, Letter, is_read_body}
+use Rattle.object_model.specs.Letters.Body.{Group, Join, Install, Report, ReportAck}
 use Rattle.cluster_model.specs.Cluster as mail_cluster
 use Rattle.cluster_model.specs.Claims.{boot_of}
 use Rattle.cluster_model.specs.Forms.{FormsEpoch}
 use Rattle.cluster_model.specs.Thrown.{Why}
 use Rattle.cluster_model.specs.World as mail
 use Rattle.cluster_model.specs.Steps as mail_steps
-use Rattle.cluster_model.specs.Steps.Step.{Post, PushTo, Form, Start}
+use Rattle.cluster_model.specs.Steps.Step.{AskFor, GiveUp, Post, PushTo, Form, Start}
 use Rattle.cluster_model.specs.Makes as mail_makes
 use Rattle.cluster_model.specs.Makes.Posts.{IsForMaps, FailsForMaps}
 use Rattle.maps_model.specs.Rules as maps_rules
 use Rattle.whole_model.specs.Whole.{Node, Slot, with_slot, maps_disk_of}
 use Rattle.whole_model.specs.Whole.Life.{Down}
-use Rattle.whole_model.specs.Rules.{promise_records}
+use Rattle.whole_model.specs.Rules.{IsMapsBody, promise_records}
 use Rattle.whole_world.specs.World.{World, mail_world_of, slot_up, IsUp}
 use Rattle.whole_world.specs.Thrown.{refused_by}
 use Rattle.whole_world.specs.Steps.{Step, Said, StepFault, StepOutcome, actor_fault, letters_worn, first_refusal, by_slot, group_fault, conclude_fault, node_fault, step_fault}
 use Rattle.whole_world.specs.Steps.Step.{OfMessages, OpenGroup, ConcludeGroup, ReportTo}
 use Rattle.whole_world.specs.Steps.StepFault.{Fault}
 use Rattle.whole_world.specs.Steps.StepOutcome.{Says, Refused, NoMemory}
-use Rattle.whole_world.specs.Makes.{learnt, promise_by, said_of, started, NodeGoesDown, Groups, Forms, Reports, HearsMaps, StartsUp, DoesStep, RunsShort, MadeStep, MakesStep, MakesAll}
+use Rattle.whole_world.specs.Makes.{learnt, promise_by, said_of, started, NodeGoesDown, Groups, Forms, Reports, HearsMaps, StartsUp, DoesStep, RunsShort, MadeStep, IsUnseen, MakesStep, MakesAll}
 use Rattle.whole_world.specs.Makes.Groups.{Opens, FailsOpening}
 use Rattle.whole_world.specs.Makes.Reports.{Sends, HasNone}
 use Rattle.whole_world.specs.Makes.HearsMaps.{Hears, FailsHearing}
@@ -57,18 +58,32 @@ heard_or_thrown : (why : Option Why) → mail_makes.IsHeardOrThrown (said_seen (
 heard_or_thrown None = tt
 heard_or_thrown (Some why) = tt
 
+-- a letter of membership or maps is none of calls that read
+pub maps_unread : (body : Body) → IsMapsBody body → is_read_body body ≡ false
+maps_unread (Group epoch) of = refl
+maps_unread (Join epoch promise boot was claims) of = refl
+maps_unread (Install membership) of = refl
+maps_unread (Report row) of = refl
+maps_unread (ReportAck user version) of = refl
+maps_unread body of = absurd of
+
 module _ (plan : Plan) (old new : World) where
-  posts_seen : (number : ℕ) (keep : Bool) (said : Said) → HearsMaps old number keep said new → mail_makes.Posts plan (mail_world_of old) number keep (said_seen said) (mail_world_of new)
+  posts_seen : (number : ℕ) (keep : Bool) (said : Said) → HearsMaps old number keep said new
+      → (posts : mail_makes.Posts plan (mail_world_of old) number keep (said_seen said) (mail_world_of new)) × (is_read_body (mail_makes.posted_letter posts).body ≡ false)
   posts_seen number keep said (Hears flies node disk up of fresh did h is new_world) =
-      let plain : (letter : Letter) → Among letter did.out → IsPlainMaps letter = λ letter m. hear_sends flies.letter.to node.maps (maps_disk_of disk) flies.letter did letter flies.letter.body of h m in
-      IsForMaps flies node.mail disk (mail_here old.slots flies.letter.to (slot_up node disk) up) of fresh
-      (subst (λ (s : Said). mail_makes.IsHeardOrThrown (said_seen s)) (sym is) (heard_or_thrown (refused_by flies.letter.to node.maps flies.letter.body)))
-      (mail_did (learnt node flies.letter.body) disk did.node.installed (promise_by node.maps flies.letter.body) did.out)
-      (formed (learnt node flies.letter.body) disk did (promise_by node.maps flies.letter.body) did.out plain)
-      (ap mail_world_of new_world ∙ after_seen (record old { flying = mail.flies_on (mail_world_of old) number flies keep }) flies.letter.to (learnt node flies.letter.body) disk did (promise_by node.maps flies.letter.body) did.out plain)
-  posts_seen number keep said (FailsHearing flies node disk up of fresh is down g new_world) =
-      FailsForMaps flies node.mail disk (promise_by node.maps flies.letter.body) (mail_here old.slots flies.letter.to (slot_up node disk) up) of fresh (ap said_seen is) (mail_world_of down)
-      (goes_down old flies.letter.to disk (promise_by node.maps flies.letter.body) down g) (ap mail_world_of new_world)
+      let plain : (letter : Letter) → Among letter did.out → IsPlainMaps letter = λ letter m. hear_sends flies.letter.to node.maps (maps_disk_of disk) flies.letter did letter flies.letter.body of h m in (
+        IsForMaps flies node.mail disk (mail_here old.slots flies.letter.to (slot_up node disk) up) of fresh
+            (subst (λ (s : Said). mail_makes.IsHeardOrThrown (said_seen s)) (sym is) (heard_or_thrown (refused_by flies.letter.to node.maps flies.letter.body)))
+            (mail_did (learnt node flies.letter.body) disk did.node.installed (promise_by node.maps flies.letter.body) did.out)
+            (formed (learnt node flies.letter.body) disk did (promise_by node.maps flies.letter.body) did.out plain)
+            (ap mail_world_of new_world ∙ after_seen (record old { flying = mail.flies_on (mail_world_of old) number flies keep }) flies.letter.to (learnt node flies.letter.body) disk did (promise_by node.maps flies.letter.body) did.out plain),
+        maps_unread flies.letter.body of,
+      )
+  posts_seen number keep said (FailsHearing flies node disk up of fresh is down g new_world) = (
+    FailsForMaps flies node.mail disk (promise_by node.maps flies.letter.body) (mail_here old.slots flies.letter.to (slot_up node disk) up) of fresh (ap said_seen is) (mail_world_of down)
+        (goes_down old flies.letter.to disk (promise_by node.maps flies.letter.body) down g) (ap mail_world_of new_world),
+    maps_unread flies.letter.body of,
+  )
 
   starts_seen : (n : ℕ) (said : Said) → StartsUp plan old n said new → mail_makes.StartsUp plan (mail_world_of old) n (said_seen said) (mail_world_of new)
   starts_seen n said (Comes disk pending kept here pending_is below is records rec new_world) =
@@ -164,7 +179,7 @@ module _ (plan : Plan) (w : World) (n : ℕ) where
 
   form_goes : mail_steps.is_node plan n ≡ true → actor_fault n w ≡ None → letters_worn w ≡ None → mail_steps.step_fault plan (Form n) (mail_world_of w) ≡ None
   form_goes is_named acts worn = (λ i. mail_steps.first_fault (
-      (if is_named i && true then None else Some mail_steps.StepFault.NoSuchNode) ∷ (same_slot (mail_cluster.slot_at (mail_world_of w).slots n) ∙ acts) i ∷ None ∷ None
+      (if is_named i && true then None else Some mail_steps.StepFault.NoSuchNode) ∷ (same_slot (mail_cluster.slot_at (mail_world_of w).slots n) ∙ acts) i ∷ None
       ∷ (if not_worn worn i || never_worn (mail_cluster.slot_at (mail_world_of w).slots n) i then Some mail_steps.StepFault.Worn else None) ∷ None ∷ []
       ))
 
@@ -207,7 +222,7 @@ module _ (plan : Plan) (tells : Bool) (old new : World) where
     subst (λ (s : Said). mail_makes.DoesStep plan tells (mail_world_of old) one (said_seen s) (mail_world_of new)) (sym says) does,
   )
   does_seen step said fits (PostsMaps number keep is h) = at_step step (OfMessages (Post number keep)) said is
-      (no_fault (mail_steps.step_fault plan (Post number keep) (mail_world_of old)) (fits_at step (OfMessages (Post number keep)) is fits), posts_seen plan old new number keep said h)
+      (no_fault (mail_steps.step_fault plan (Post number keep) (mail_world_of old)) (fits_at step (OfMessages (Post number keep)) is fits), inl (posts_seen plan old new number keep said h))
   does_seen step said fits (Starts n is s) = at_step step (OfMessages (Start n)) said is
       (no_fault (mail_steps.step_fault plan (Start n) (mail_world_of old)) (fits_at step (OfMessages (Start n)) is fits), starts_seen plan old new n said s)
   does_seen step said fits (OpensGroup n is g) = at_step step (OpenGroup n) said is (open_goes plan old n (fits_at step (OpenGroup n) is fits), opens_seen plan old new n said g)
@@ -232,16 +247,21 @@ module _ (plan : Plan) (tells : Bool) (old new : World) where
       at : (other : Step) → step ≡ other → mail_makes.FormsIn (mail_world_of old) node.mail n (step_seen other) → mail_makes.FormsIn (mail_world_of old) node.mail n (step_seen step)
       at other e f = subst (λ (x : Step). mail_makes.FormsIn (mail_world_of old) node.mail n (step_seen x)) (sym e) f
 
+  unseen_by : (one : mail_steps.Step) (fault : StepFault) → IsUnseen plan old (OfMessages one) fault → mail_makes.IsUnseen plan (mail_world_of old) one (fault_seen fault)
+  unseen_by (AskFor number) fault (is, none) = (ap fault_seen is, none)
+  unseen_by (GiveUp number) fault (is, none) = (ap fault_seen is, none)
+  unseen_by one fault unseen = absurd unseen
+
   refused_seen : (step : Step) (fault : StepFault) → (step_fault plan step old ≡ Some fault) ⊎ ((step_fault plan step old ≡ None) × (fault ≡ Fault mail_steps.StepFault.Worn) × Rattle.whole_world.specs.Makes.StartIsWorn old step)
-      ⊎ ((step_fault plan step old ≡ None) × (fault ≡ Fault mail_steps.StepFault.NoRoom) × Rattle.whole_world.specs.Makes.ReportHasNoRoom old step)
+      ⊎ ((step_fault plan step old ≡ None) × (fault ≡ Fault mail_steps.StepFault.NoRoom) × Rattle.whole_world.specs.Makes.ReportHasNoRoom old step) ⊎ IsUnseen plan old step fault
       → ((mail_steps.step_fault plan (step_seen step) (mail_world_of old) ≡ Some (fault_seen fault))
-      ⊎ ((mail_steps.step_fault plan (step_seen step) (mail_world_of old) ≡ None) × (fault_seen fault ≡ mail_steps.StepFault.Worn) × mail_makes.StartIsWorn (mail_world_of old) (step_seen step))) ⊎ mail_makes.IsUnseen (step_seen step)
-  refused_seen (OfMessages one) fault why = inl (⊎_elim
-      (λ has. inl (some_fault (mail_steps.step_fault plan one (mail_world_of old)) fault has))
+      ⊎ ((mail_steps.step_fault plan (step_seen step) (mail_world_of old) ≡ None) × (fault_seen fault ≡ mail_steps.StepFault.Worn) × mail_makes.StartIsWorn (mail_world_of old) (step_seen step))) ⊎ mail_makes.IsUnseen plan (mail_world_of old) (step_seen step) (fault_seen fault)
+  refused_seen (OfMessages one) fault why = ⊎_elim
+      (λ has. inl (inl (some_fault (mail_steps.step_fault plan one (mail_world_of old)) fault has)))
       (⊎_elim
-      (λ (none, is, worn). inr (no_fault (mail_steps.step_fault plan one (mail_world_of old)) none, ap fault_seen is, worn))
-      (λ (none, is, crowded). absurd crowded))
-      why)
+      (λ (none, is, worn). inl (inr (no_fault (mail_steps.step_fault plan one (mail_world_of old)) none, ap fault_seen is, worn)))
+      (⊎_elim (λ (none, is, crowded). absurd crowded) (λ unseen. inr (unseen_by one fault unseen))))
+      why
   refused_seen (OpenGroup n) fault why = inr tt
   refused_seen (ConcludeGroup n) fault why = inr tt
   refused_seen (ReportTo from to) fault why = inr tt

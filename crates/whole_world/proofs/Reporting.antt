@@ -1,5 +1,5 @@
 -- What a Report comes to: rows go out, none is due, or there is no room for what is due; and it is one of these alone.
-use Rattle.std.proofs.Common.{◌≡◌, ◌≢◌, inl, inr, ⊎_elim, ℕ, zero, suc, ◌≤◌, Bool, true, false, List, [], ◌∷◌, length, map, min, take, Option, Some, None, refl, sym, ap, ◌∙◌, subst, true≢false, arith}
+use Rattle.std.proofs.Common.{◌≡◌, ◌≢◌, ◌⊎◌, inl, inr, ⊎_elim, ℕ, zero, suc, ◌≤◌, Bool, true, false, List, [], ◌∷◌, length, map, min, take, Option, Some, None, refl, sym, ap, ◌∙◌, subst, true≢false, arith}
 use Rattle.std.proofs.lemmas.Bool.{and_parts}
 use Rattle.std.specs.List.{filter}
 use Rattle.std.specs.Option.{option_map}
@@ -124,31 +124,36 @@ module _ (plan : Plan) (tells : Bool) (w : World) (from to : ℕ) where
   up_of said new (Sends node disk up users first some did r says is) = (node, disk, up)
   up_of said new (HasNone node disk up none says is) = (node, disk, up)
 
+  -- it is refused for a fault, or since there is no room
+  causes : (fault : StepFault) (new : World) → Makes (Refused fault) new
+      → (step_fault plan (ReportTo from to) w ≡ Some fault) ⊎ ((step_fault plan (ReportTo from to) w ≡ None) × (fault ≡ Fault NoRoom) × FindsNoRoom w from to)
+  causes fault new (why, same) = ⊎_elim
+      (λ faults. inl faults)
+      (λ more. ⊎_elim (λ (none, is, start). absurd start) (λ others. ⊎_elim (λ crowded. inr crowded) (λ unseen. absurd unseen) others) more)
+      why
+
   -- what is made is not refused
   not_refused : (said : Said) (new : World) (fault : StepFault) (other : World) → Makes (Says said) new → Makes (Refused fault) other → ⊥
-  not_refused said new fault other made (why, same) = ⊎_elim
+  not_refused said new fault other made refused = ⊎_elim
       (λ faults. none_some fault (step_fault plan (ReportTo from to) w) made.0 faults)
-      (λ more. ⊎_elim (λ (none, is, start). start) (λ (none, is, crowded). crowds crowded) more)
-      why
+      (λ (none, is, crowded). crowds crowded)
+      (causes fault other refused)
     where
       crowds : FindsNoRoom w from to → ⊥
       crowds c = no_room w from to c.node c.disk said new (comes_to w from to c.node c.disk c.up said new (reported said new made)) c.due c.full
 
   -- and it is refused for one cause
   one_fault : (a b : StepFault) (one two : World) → Makes (Refused a) one → Makes (Refused b) two → a ≡ b
-  one_fault a b one two (why, same) (also, same_) = ⊎_elim
+  one_fault a b one two first second = ⊎_elim
       (λ faults. ⊎_elim
       (λ faults_. inside a b (sym faults ∙ faults_))
-      (λ more. ⊎_elim (λ (none, is, start). absurd start) (λ (none, is, crowded). absurd (none_some a (step_fault plan (ReportTo from to) w) none faults)) more)
-      also)
-      (λ more. ⊎_elim
-      (λ (none, is, start). absurd start)
+      (λ (none, is, crowded). absurd (none_some a (step_fault plan (ReportTo from to) w) none faults))
+      (causes b two second))
       (λ (none, is, crowded). ⊎_elim
       (λ faults_. absurd (none_some b (step_fault plan (ReportTo from to) w) none faults_))
-      (λ more_. ⊎_elim (λ (none_, is_, start). absurd start) (λ (none_, is_, crowded_). is ∙ sym is_) more_)
-      also)
-      more)
-      why
+      (λ (none_, is_, crowded_). is ∙ sym is_)
+      (causes b two second))
+      (causes a one first)
 
   pub one_outcome : (a b : StepOutcome) (one two : World) → MemoryLasted a → MemoryLasted b → Makes a one → Makes b two → (a ≡ b) × (one ≡ two)
   one_outcome (Says said) (Says other) one two _ _ p q =
@@ -210,7 +215,7 @@ module _ (plan : Plan) (tells : Bool) (w : World) (from to : ℕ) where
             Refused (Fault NoRoom),
             w,
             tt,
-            (inr (inr (goes, refl, record { node = node; disk = disk; up = up; due = (other, user, some_in user more e); full = full })), refl),
+            (inr (inr (inl (goes, refl, record { node = node; disk = disk; up = up; due = (other, user, some_in user more e); full = full }))), refl),
           )
           by (suc room) left = at (most_at_once w.flying) refl (subst (λ k. 1 ≤ min k most_reports) (sym left) (one_at_least room))
             where

@@ -38,7 +38,9 @@ use Rattle.std.specs.Option.{option_map}
 use Rattle.whole_world.specs.Steps.Said.{Told}
 use Rattle.whole_world.specs.Sweeps.{IsFine}
 use Rattle.whole_world.proofs.Along.{up_slot}
-use Rattle.std.proofs.Common.{arith, ◌&&◌, nat_lt, take, flat_map, T, Option}
+use Rattle.cluster_model.proofs.Reading.{SeesOne, posts_seen}
+use Rattle.cluster_model.proofs.Reading.SeesOne.{Turns as SeesTurn, Refuses, Sends as SendsOne, Takes as TakesOut}
+use Rattle.std.proofs.Common.{arith, le_refl, le_trans, ◌&&◌, nat_lt, take, flat_map, T, Option}
 use Rattle.std.proofs.lemmas.Bool.{and_parts, lt-ltb}
 use Rattle.std.specs.Cmp.{tied_itself, Equal-is}
 use Rattle.std.specs.FinMap as fin
@@ -258,8 +260,8 @@ rest_none : (a : Option mail_steps.StepFault) (rest : List (Option mail_steps.St
 rest_none None rest e = e
 rest_none (Some f) rest e = absurd (cc e)
 
-last_none : (a b c d e f : Option mail_steps.StepFault) → mail_steps.first_fault (a ∷ b ∷ c ∷ d ∷ e ∷ f ∷ []) ≡ None → f ≡ None
-last_none a b c d e f none = at f (rest_none e (f ∷ []) (rest_none d (e ∷ f ∷ []) (rest_none c (d ∷ e ∷ f ∷ []) (rest_none b (c ∷ d ∷ e ∷ f ∷ []) (rest_none a (b ∷ c ∷ d ∷ e ∷ f ∷ []) none)))))
+last_none : (a b c d e : Option mail_steps.StepFault) → mail_steps.first_fault (a ∷ b ∷ c ∷ d ∷ e ∷ []) ≡ None → e ≡ None
+last_none a b c d e none = at e (rest_none d (e ∷ []) (rest_none c (d ∷ e ∷ []) (rest_none b (c ∷ d ∷ e ∷ []) (rest_none a (b ∷ c ∷ d ∷ e ∷ []) none))))
   where
     at : (f : Option mail_steps.StepFault) → mail_steps.first_fault (f ∷ []) ≡ None → f ≡ None
     at None e = refl
@@ -275,7 +277,7 @@ not_due plan w from to node disk up goes still none = by (due_to from to node) (
 
     room : mail_steps.room_fault (PushTo from to) (mail_world_of w) ≡ None
     room = last_none (mail_steps.node_name_fault plan (PushTo from to)) (mail_steps.actor_fault (PushTo from to) (mail_world_of w).slots (Some from)) (mail_steps.letter_fault (PushTo from to) w.flying)
-        (mail_steps.ticket_fault (PushTo from to) (mail_world_of w).slots) (mail_steps.worn_fault plan (PushTo from to) (mail_world_of w)) (mail_steps.room_fault (PushTo from to) (mail_world_of w))
+        (mail_steps.worn_fault plan (PushTo from to) (mail_world_of w)) (mail_steps.room_fault (PushTo from to) (mail_world_of w))
         (unfaulted (mail_steps.step_fault plan (PushTo from to) (mail_world_of w)) goes)
 
     if_none : (b : Bool) → (if b then Some mail_steps.StepFault.NoRoom else None) ≡ None → b ≡ false
@@ -398,7 +400,7 @@ module _ (plan : Plan) (tells : Bool) (w new : World) (stands : Stands plan w) w
   -- a post
   pub post_sent : (number : ℕ) (said : Said) → MakesStep plan tells w (OfMessages (Post number false)) (Says said) new → IsFine said → w.sent ≤ new.sent
   post_sent number said (fits, ForMessages one step answer says for_mail does follow) fine =
-      by (subst (λ (k : mail_steps.Step). mail_makes.DoesStep plan tells (mail_world_of w) k answer (mail_world_of new)) (inside one step) does)
+      either (subst (λ (k : mail_steps.Step). mail_makes.DoesStep plan tells (mail_world_of w) k answer (mail_world_of new)) (inside one step) does)
     where
       inside : (k : mail_steps.Step) → OfMessages (Post number false) ≡ OfMessages k → k ≡ Post number false
       inside k e = cc
@@ -411,6 +413,20 @@ module _ (plan : Plan) (tells : Bool) (w new : World) (stands : Stands plan w) w
       by (IsForMaps f node disk up of fresh told did forms is) = subst (λ k. w.sent ≤ k) (sym (ap (λ (v : mail.World). v.sent) is)) (mail_sent did.out _)
       by (FailsForMaps f node disk promise up of fresh told down g is) = absurd (fine f.letter.to (says ∙ ap Told told))
       by (MailFails f node disk up thrown told down g is) = absurd (fine f.letter.to (says ∙ ap Told told))
+
+      -- of calls that read letters may be sent, and none is sent back
+      rises : (a b : mail.World) → SeesOne a b → a.sent ≤ b.sent
+      rises a b (SeesTurn own node disk calls count up e) = le_same a.sent b.sent (ap (λ (v : mail.World). v.sent) e)
+      rises a b (Refuses own node disk kind mishaps up e) = le_same a.sent b.sent (ap (λ (v : mail.World). v.sent) e)
+      rises a b (SendsOne letter l e) = more a.sent b.sent (ap (λ (v : mail.World). v.sent) e)
+        where
+          more : (x y : ℕ) → y ≡ x + 1 → x ≤ y
+          more x y is = omega (arith, is)
+      rises a b (TakesOut letter flies keep of e) = le_same a.sent b.sent (ap (λ (v : mail.World). v.sent) e)
+
+      either : mail_makes.DoesStep plan tells (mail_world_of w) (Post number false) answer (mail_world_of new) → w.sent ≤ new.sent
+      either (inl d) = by d.0
+      either (inr d) = posts_seen (λ (a b : mail.World). a.sent ≤ b.sent) (λ v. le_refl v.sent) (λ a b c p q. le_trans p q) rises number false answer (mail_world_of w) (mail_world_of new) (λ n e a b f. absurd (fine n (says ∙ ap Told e))) d
   post_sent number said (fits, PostsMaps other keep step (Hears f node disk up of fresh did h says is)) fine = subst (λ k. w.sent ≤ k) (sym (ap (λ (v : World). v.sent) is)) (whole_sent did.out _)
   post_sent number said (fits, PostsMaps other keep step (FailsHearing f node disk up of fresh says down g is)) fine = absurd (fine f.letter.to says)
   post_sent number said (fits, Starts n step h) fine = absurd (clash n step)

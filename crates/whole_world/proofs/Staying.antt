@@ -53,6 +53,8 @@ use Rattle.cluster_model.specs.Makes.Pushes.{Sends as MailSends, FailsPushing}
 use Rattle.cluster_model.specs.Steps.Said.{Faulted}
 use Rattle.cluster_model.specs.Steps.Step.{PushTo}
 use Rattle.cluster_model.proofs.Slots as mail_slots
+use Rattle.cluster_model.proofs.Reading.{SeesOne, posts_seen}
+use Rattle.cluster_model.proofs.Reading.SeesOne.{Turns as SeesTurn, Refuses, Sends as SendsOne, Takes as TakesOut}
 use Rattle.whole_world.specs.Steps.Step.{OfMessages, ReportTo}
 use Rattle.whole_world.specs.Steps.Said.{Told}
 use Rattle.whole_world.specs.Settled.{IsLive}
@@ -136,16 +138,37 @@ module _ (old new : mail.World) where
       (after_up old old own node disk (mail_rules.push own to (Rattle.cluster_model.specs.Room.keys_pushed old.flying own to node disk) node disk) refl up)
   pushes_up own to said fine (FailsPushing node disk up says is) = absurd (fine own says)
 
-  pub posts_up : (plan : Plan) (number : ℕ) (keep : Bool) (said : mail_steps.Said) → ((n : ℕ) → said ≢ Faulted n) → mail_makes.Posts plan old number keep said new → KeepsUp old.slots new.slots
-  posts_up plan number keep said fine (NobodyUp f nobody says is) = subst (λ (w : mail.World). KeepsUp old.slots w.slots) (sym is) (soft_up old.slots (mail.missed DownKind old.slots f.letter) (soft_missed DownKind old.slots f.letter))
-  posts_up plan number keep said fine (OfOtherEpoch f node disk up thrown says is) = subst (λ (w : mail.World). KeepsUp old.slots w.slots) (sym is) (soft_up old.slots (mail.missed StaleKind old.slots f.letter) (soft_missed StaleKind old.slots f.letter))
-  posts_up plan number keep said fine (TooLate f node disk up thrown says is) = subst (λ (w : mail.World). KeepsUp old.slots w.slots) (sym is) (λ n a d e. (a, d, e))
-  posts_up plan number keep said fine (IsHeard f node disk up thrown says is) = subst (λ (w : mail.World). KeepsUp old.slots w.slots) (sym is)
+  mail_up : (plan : Plan) (number : ℕ) (keep : Bool) (said : mail_steps.Said) → ((n : ℕ) → said ≢ Faulted n) → mail_makes.Posts plan old number keep said new → KeepsUp old.slots new.slots
+  mail_up plan number keep said fine (NobodyUp f nobody says is) = subst (λ (w : mail.World). KeepsUp old.slots w.slots) (sym is) (soft_up old.slots (mail.missed DownKind old.slots f.letter) (soft_missed DownKind old.slots f.letter))
+  mail_up plan number keep said fine (OfOtherEpoch f node disk up thrown says is) = subst (λ (w : mail.World). KeepsUp old.slots w.slots) (sym is) (soft_up old.slots (mail.missed StaleKind old.slots f.letter) (soft_missed StaleKind old.slots f.letter))
+  mail_up plan number keep said fine (TooLate f node disk up thrown says is) = subst (λ (w : mail.World). KeepsUp old.slots w.slots) (sym is) (λ n a d e. (a, d, e))
+  mail_up plan number keep said fine (IsHeard f node disk up thrown says is) = subst (λ (w : mail.World). KeepsUp old.slots w.slots) (sym is)
       (after_up old (record old { flying = mail.flies_on old number f keep }) f.letter.to node disk (mail_deeds.hear f.letter.to plan.nodes node disk f.letter) refl up)
-  posts_up plan number keep said fine (IsForMaps f node disk up of fresh says did forms is) = subst (λ (w : mail.World). KeepsUp old.slots w.slots) (sym is)
+  mail_up plan number keep said fine (IsForMaps f node disk up of fresh says did forms is) = subst (λ (w : mail.World). KeepsUp old.slots w.slots) (sym is)
       (after_up old (record old { flying = mail.flies_on old number f keep }) f.letter.to node disk did refl up)
-  posts_up plan number keep said fine (FailsForMaps f node disk promise up of fresh says down g is) = absurd (fine f.letter.to says)
-  posts_up plan number keep said fine (MailFails f node disk up thrown says down g is) = absurd (fine f.letter.to says)
+  mail_up plan number keep said fine (FailsForMaps f node disk promise up of fresh says down g is) = absurd (fine f.letter.to says)
+  mail_up plan number keep said fine (MailFails f node disk up thrown says down g is) = absurd (fine f.letter.to says)
+
+-- what messages see of calls that read leaves those up that are
+abbrev StayUp : mail.World → mail.World → Type 0
+StayUp a b = KeepsUp a.slots b.slots
+
+stay_up : (w : mail.World) → StayUp w w
+stay_up w n a d e = (a, d, e)
+
+up_then : (a b c : mail.World) → StayUp a b → StayUp b c → StayUp a c
+up_then a b c = up_on a.slots b.slots c.slots
+
+sees_up : (a b : mail.World) → SeesOne a b → StayUp a b
+sees_up a b (SeesTurn own node disk calls count up e) = subst (λ (w : mail.World). KeepsUp a.slots w.slots) (sym e) (write_up a.slots own node (record node { calls = calls; count = count }) disk disk up)
+sees_up a b (Refuses own node disk kind mishaps up e) = subst (λ (w : mail.World). KeepsUp a.slots w.slots) (sym e) (write_up a.slots own node (mail_rules.refuse kind mishaps 0 node disk).node disk disk up)
+sees_up a b (SendsOne letter l e) = subst (λ (w : mail.World). KeepsUp a.slots w.slots) (sym e) (stay_up a)
+sees_up a b (TakesOut number flies keep of e) = subst (λ (w : mail.World). KeepsUp a.slots w.slots) (sym e) (stay_up a)
+
+pub posts_up : (old new : mail.World) (plan : Plan) (tells : Bool) (number : ℕ) (keep : Bool) (said : mail_steps.Said) → ((n : ℕ) → said ≢ Faulted n)
+    → mail_makes.DoesStep plan tells old (Post number keep) said new → KeepsUp old.slots new.slots
+posts_up old new plan tells number keep said fine (inl d) = mail_up old new plan number keep said fine d.0
+posts_up old new plan tells number keep said fine (inr d) = posts_seen StayUp stay_up up_then sees_up number keep said old new (λ n e a b f. absurd (fine n e)) d
 
 -- records of messages leave the boot
 turned_boot : (own : ℕ) (node : maps.Node) (seen : List Record) (user : List ℕ) (full : Bool) → (turned_for own node seen user full).boot ≡ node.boot
@@ -333,7 +356,7 @@ module _ (plan : Plan) (tells : Bool) (old new : World) (stands : Stands plan ol
       let same : one ≡ Post number false = inside one step in
       let posts : mail_makes.DoesStep plan tells (mail_world_of old) (Post number false) answer (mail_world_of new) = subst (λ (k : mail_steps.Step). mail_makes.DoesStep plan tells (mail_world_of old) k answer (mail_world_of new)) same does in
       plain_stays old new (steps_plain (mail_world_of old) (mail_world_of new) (apart plan old stands) plan tells (Post number false) answer (λ n e. not_start n e) (of_mail old (Post number false) (subst (IsForMessages old) (inside one step) for_mail)) posts) follow
-      (posts_up (mail_world_of old) (mail_world_of new) plan number false answer (told_fine said answer says fine) posts)
+      (posts_up (mail_world_of old) (mail_world_of new) plan tells number false answer (told_fine said answer says fine) posts)
     where
       inside : (k : mail_steps.Step) → OfMessages (Post number false) ≡ OfMessages k → k ≡ Post number false
       inside k e = cc

@@ -10,8 +10,8 @@ use Rattle.mail_model.specs.Record.{Record}
 use Rattle.mail_model.specs.Record.Record.{Retired as RetiredRecord}
 use Rattle.object_model.specs.Lists.{Among}
 use Rattle.object_model.specs.Sets.{has, with_node, all_nodes}
-use Rattle.object_model.specs.Letters.{Number, DeletionMark, Body, Letter}
-use Rattle.object_model.specs.Letters.Body.{File, Filed, Strike, StrikeTold, Push, PushAck, Retire}
+use Rattle.object_model.specs.Letters.{Number, DeletionMark, Body, Letter, is_read_body}
+use Rattle.object_model.specs.Letters.Body.{File, Filed, Strike, StrikeTold, Push, PushAck, Retire, Group, Join, Install, Report, ReportAck}
 use Rattle.object_model.specs.Mishaps.{MishapKind}
 use Rattle.object_model.specs.Mishaps.MishapKind.{Disk, Dropped, Stale as StaleKind, Down as DownKind}
 use Rattle.object_model.specs.UpdateLog.{Logged, cleared, due}
@@ -22,7 +22,7 @@ use Rattle.mail_model.specs.Identity.{State}
 use Rattle.cluster_model.specs.Cluster.{Ticket, Node, Life, Slot, with_slot, epoch_of, members_of}
 use Rattle.cluster_model.specs.Cluster.Life.{Up, Down, Lost}
 use Rattle.cluster_model.specs.Store.{Store, Update, take_all, with_octets, gone_updates, here_updates}
-use Rattle.cluster_model.specs.Rules.{Reaction, StrikeItem, idle, store_of, shrunk, acked_at, retired_at, told_at, with_updates, pushed_octets, ticket_at, push, push_of, widened, widen, begin_deliver, begin_strike, begin_read, end_ticket, dated, marks_for, new_number, receivers, letters_to, strike_to, strikes_to}
+use Rattle.cluster_model.specs.Rules.{Reaction, StrikeItem, idle, store_of, shrunk, acked_at, retired_at, told_at, with_updates, pushed_octets, ticket_at, push, push_of, widened, widen, begin_deliver, begin_strike, end_ticket, refuse, dated, marks_for, new_number, receivers, letters_to, strike_to, strikes_to}
 use Rattle.cluster_model.specs.Deeds.{slot_up, hear, hear_body}
 use Rattle.cluster_model.specs.Forms.{IsMapsBody}
 use Rattle.cluster_model.specs.Thrown.{with_stamps, is_stale}
@@ -32,7 +32,7 @@ use Rattle.cluster_model.specs.Steps.{NodeCall, Step, Said}
 use Rattle.cluster_model.specs.Steps.NodeCall.{Deliver, Login, Fetch, Strike as StrikeCall, Leave}
 use Rattle.cluster_model.specs.Steps.Step.{Begin, AskFor, GiveUp, Post, DropLetter, PushTo, Widen, Form, Crash, Start, Lose, Tick}
 use Rattle.cluster_model.specs.Makes.{IsUp, after, with_struck, begun_by, lost_letter, IsWorkCut, NodeGoesDown, cut_world, BeginsCall, AnswersAsk, Posts, FormsIn, DoesStep, RunsShort, targets_for, asked_for}
-use Rattle.cluster_model.specs.Makes.BeginsCall.{FailsAtOnce, Goes, FailsInIt, Reads, FailsReading, Leaves}
+use Rattle.cluster_model.specs.Makes.BeginsCall.{FailsAtOnce, Goes, FailsInIt}
 use Rattle.cluster_model.specs.Makes.AnswersAsk.{Waits, Ends}
 use Rattle.cluster_model.specs.Makes.Posts.{NobodyUp, OfOtherEpoch, TooLate, IsHeard, FailsHearing, IsForMaps, FailsForMaps}
 use Rattle.cluster_model.specs.Makes.Pushes.{Sends, FailsPushing}
@@ -40,10 +40,13 @@ use Rattle.cluster_model.specs.Makes.Widens.{Adds, FailsWidening}
 use Rattle.cluster_model.specs.Makes.RunsShort.{Beginning, Hearing, Widening, Forming, Starting}
 use Rattle.cluster_model.proofs.Logs.{receiver_is, sent_to}
 use Rattle.cluster_model.proofs.HearLogs.{among_flat}
+use Rattle.cluster_model.proofs.Reading.{SeesOne, SeesFall, begins_seen, answers_seen, gives_up_seen, posts_seen, drops_seen}
+use Rattle.cluster_model.proofs.Reading.SeesOne.{Turns as SeesTurn, Refuses, Sends as SendsOne, Takes}
 use Rattle.cluster_model.proofs.Stepping.{letters_both, letters_around, flew}
-use Rattle.whole_model.specs.Rules.{AreOfMessages, IsMail}
+use Rattle.whole_model.specs.Rules.{IsMailBody, AreOfMessages, IsMail}
 use Rattle.whole_model.proofs.Appends.{Grew, grew_none, grew_on, grew_all, grew_octets, IsOf, hears_of}
-use Rattle.whole_world.proofs.Plain.{IsPlain, Flew, plain_same, plain_write, plain_soft, plain_put, soft_missed}
+use Rattle.whole_world.proofs.Plain.{IsPlain, Flew, all_same, soft_write, plain_same, plain_write, plain_soft, plain_put, plain_falls, plain_sends, soft_missed}
+use Rattle.whole_world.proofs.Plain.IsSoft.{Inner}
 use Rattle.whole_world.proofs.Plain.Turns.{Works, Falls, IsLost, Stops}
 
 -- a letter that stays in flight flew
@@ -186,8 +189,8 @@ begun_did : (plan : Plan) (w : World) (own : ℕ) (node : Node) (disk : List Rec
 begun_did plan w own node disk (Deliver mail) octets = deliver_did own plan.nodes w.seconds node disk mail.mailboxes octets (targets_for plan own node)
 begun_did plan w own node disk (StrikeCall user items) octets = strike_did own plan.nodes node disk user (asked_for plan own node items)
 begun_did plan w own node disk (Login user secret) octets = still own node node disk refl
-begun_did plan w own node disk (Fetch user id from most) octets = still own node node disk refl
-begun_did plan w own node disk (Leave user) octets = still own node node disk refl
+begun_did plan w own node disk (Fetch user id from most holders) octets = still own node node disk refl
+begun_did plan w own node disk (Leave user login manager) octets = still own node node disk refl
 
 -- pushes
 none_due : (own to : ℕ) (node : Node) → to ≡ own → due_to own to node ≡ []
@@ -242,14 +245,48 @@ struck_same : (w : World) (call : NodeCall) → ((with_struck w call).slots ≡ 
 struck_same w (Deliver mail) = (refl, refl)
 struck_same w (StrikeCall user items) = (refl, refl)
 struck_same w (Login user secret) = (refl, refl)
-struck_same w (Fetch user id from most) = (refl, refl)
-struck_same w (Leave user) = (refl, refl)
+struck_same w (Fetch user id from most holders) = (refl, refl)
+struck_same w (Leave user login manager) = (refl, refl)
 
 -- No epoch forms in the step: it is no Form, and it hands on no letter of membership or maps that its receiver hears.
 abbrev pub IsOfMail : World → Step → Type 0
 IsOfMail old (Form n) = ⊥
 IsOfMail old (Post number keep) = (f : Flies old number) (node : Node) (disk : List Record) → IsUp old f.letter.to node disk → is_stale f.letter node.installed ≡ false → IsMapsBody f.letter.body → ⊥
 IsOfMail old step = Unit {0}
+
+-- letters of calls that read are none of membership or maps
+pub read_is_mail : (body : Body) → is_read_body body ≡ true → IsMailBody body
+read_is_mail (Group epoch) of = absurd (true≢false (sym of))
+read_is_mail (Join epoch promise boot was claims) of = absurd (true≢false (sym of))
+read_is_mail (Install membership) of = absurd (true≢false (sym of))
+read_is_mail (Report row) of = absurd (true≢false (sym of))
+read_is_mail (ReportAck user version) of = absurd (true≢false (sym of))
+read_is_mail body of = tt
+
+-- what messages see of calls that read is plain
+module _ (old : World) where
+  abbrev Plainly : World → World → Type 0
+  Plainly a b = IsPlain old a → IsPlain old b
+
+  plainly_stays : (w : World) → Plainly w w
+  plainly_stays w p = p
+
+  plainly_then : (a b c : World) → Plainly a b → Plainly b c → Plainly a c
+  plainly_then a b c first others p = others (first p)
+
+  sees_plain : (a b : World) → SeesOne a b → Plainly a b
+  sees_plain a b (SeesTurn own node disk calls count up e) p = subst (IsPlain old) (sym e)
+      (plain_soft old a _ p (soft_write a.slots own (slot_up node disk) (slot_up (record node { calls = calls; count = count }) disk) up (Inner node (record node { calls = calls; count = count }) disk refl refl refl)) (λ letter m. m))
+  sees_plain a b (Refuses own node disk kind mishaps up e) p = subst (IsPlain old) (sym e)
+      (plain_soft old a _ p (soft_write a.slots own (slot_up node disk) (slot_up (refuse kind mishaps 0 node disk).node disk) up (Inner node (refuse kind mishaps 0 node disk).node disk refl refl refl)) (λ letter m. m))
+  sees_plain a b (SendsOne letter l e) p = subst (IsPlain old) (sym e) (plain_sends old a letter l.node l.disk p l.up l.other (read_is_mail letter.body l.body))
+  sees_plain a b (Takes number flies keep of e) p = subst (IsPlain old) (sym e) (plain_soft old a _ p (all_same a.slots) (λ letter m. flew_on a number flies keep letter m))
+
+  fall_plain : (own : ℕ) (a b : World) → SeesFall own a b → Plainly a b
+  fall_plain own a b f p = plain_falls old a b own f.node f.disk p f.up (ap (λ (w : World). w.slots) f.is) (ap (λ (w : World). w.flying) f.is)
+
+  itself : IsPlain old old
+  itself = plain_same old old refl (λ letter m. m)
 
 module _ (old new : World) where
   -- over a world with the same slots, of which no more letters fly
@@ -280,10 +317,6 @@ module _ (old new : World) where
   begins_plain plan tells own call answer (FailsInIt node disk octets up filed is g) =
       cut_plain (with_struck old call) (struck_same old call).0 (λ letter m. subst (λ (f : List Flight). Among letter (letters_of f)) (struck_same old call).1 m) own node disk up
       (begun_by plan old own node disk call octets) (begun_did plan old own node disk call octets) g
-  begins_plain plan tells own call answer (Reads node disk kind what up one goes of_kind finds is new_world) =
-      after_plain old refl (λ letter m. m) own node disk up (begin_read kind what node disk) (still own node _ disk refl) new_world
-  begins_plain plan tells own call answer (FailsReading node disk user id from most up one goes reads is new_world) = stop_plain own node disk up new_world
-  begins_plain plan tells own call answer (Leaves node disk user up one leaves is new_world) = subst (IsPlain old) (sym new_world) (plain_same old old refl (λ letter m. m))
 
   asks_plain : (plan : Plan) (number : Number) (answer : Said) → AnswersAsk plan old number answer new → IsPlain old new
   asks_plain plan number answer (Waits node disk ticket up found got wanted e is new_world) = subst (IsPlain old) (sym new_world) (plain_same old old refl (λ letter m. m))
@@ -313,11 +346,16 @@ module _ (old new : World) where
     posts_plain plan number keep answer of (FailsForMaps f node disk promise up maps fresh is down g new_world) = absurd (of f node disk up fresh maps)
 
     pub steps_plain : (plan : Plan) (tells : Bool) (step : Step) (answer : Said) → ((n : ℕ) → step ≡ Start n → ⊥) → IsOfMail old step → DoesStep plan tells old step answer new → IsPlain old new
-    steps_plain plan tells (Begin own call) answer other of d = begins_plain plan tells own call answer d
-    steps_plain plan tells (AskFor number) answer other of d = asks_plain plan number answer d
-    steps_plain plan tells (GiveUp number) answer other of d = after_plain old refl (λ letter m. m) number.node d.node d.disk d.up (end_ticket number.seq d.node d.disk) (still number.node d.node _ d.disk refl) d.new_world
-    steps_plain plan tells (Post number keep) answer other of d = posts_plain plan number keep answer of d
-    steps_plain plan tells (DropLetter number) answer other of d = subst (IsPlain old) (sym d.new_world) (lost_plain old Dropped number d.flies false)
+    steps_plain plan tells (Begin own call) answer other of (inl d) = begins_plain plan tells own call answer d
+    steps_plain plan tells (Begin own call) answer other of (inr d) = begins_seen (Plainly old) (plainly_stays old) (plainly_then old) (sees_plain old) plan own call answer old new (λ n e a b f. fall_plain old n a b f) d (itself old)
+    steps_plain plan tells (AskFor number) answer other of (inl d) = asks_plain plan number answer d
+    steps_plain plan tells (AskFor number) answer other of (inr d) = answers_seen (Plainly old) (plainly_stays old) (plainly_then old) (sees_plain old) number answer old new d (itself old)
+    steps_plain plan tells (GiveUp number) answer other of (inr d) = gives_up_seen (Plainly old) (plainly_stays old) (plainly_then old) (sees_plain old) number answer old new d (itself old)
+    steps_plain plan tells (GiveUp number) answer other of (inl d) = after_plain old refl (λ letter m. m) number.node d.node d.disk d.up (end_ticket number.seq d.node d.disk) (still number.node d.node _ d.disk refl) d.new_world
+    steps_plain plan tells (Post number keep) answer other of (inl d) = posts_plain plan number keep answer of d.0
+    steps_plain plan tells (Post number keep) answer other of (inr d) = posts_seen (Plainly old) (plainly_stays old) (plainly_then old) (sees_plain old) number keep answer old new (λ n e a b f. fall_plain old n a b f) d (itself old)
+    steps_plain plan tells (DropLetter number) answer other of (inl d) = subst (IsPlain old) (sym d.0.new_world) (lost_plain old Dropped number d.0.flies false)
+    steps_plain plan tells (DropLetter number) answer other of (inr d) = drops_seen (Plainly old) (plainly_stays old) (plainly_then old) (sees_plain old) number answer old new d (itself old)
     steps_plain plan tells (PushTo from to) answer other of (Sends node disk up is new_world) = after_plain old refl (λ letter m. m) from node disk up _ (push_did from to old.flying node disk) new_world
     steps_plain plan tells (PushTo from to) answer other of (FailsPushing node disk up is new_world) = stop_plain from node disk up new_world
     steps_plain plan tells (Widen at user id to) answer other of (Adds node disk up is new_world) = after_plain old refl (λ letter m. m) at node disk up _ (widen_did at to (Message user id) node disk) new_world

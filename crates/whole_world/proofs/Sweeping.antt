@@ -179,8 +179,8 @@ not_crowded own to node disk light = by (due_to own to node) refl
         pick false h = absurd (true≢false (sym h))
 
 mail_fault_is : (a b d : Option mail_steps.StepFault) (x : Bool) → a ≡ None → b ≡ None → d ≡ None
-    → (option_map Fault (mail_steps.first_fault (a ∷ b ∷ None ∷ None ∷ (if x then Some Worn else None) ∷ d ∷ [])) ≡ None)
-    ⊎ (option_map Fault (mail_steps.first_fault (a ∷ b ∷ None ∷ None ∷ (if x then Some Worn else None) ∷ d ∷ [])) ≡ Some (Fault Worn))
+    → (option_map Fault (mail_steps.first_fault (a ∷ b ∷ None ∷ (if x then Some Worn else None) ∷ d ∷ [])) ≡ None)
+    ⊎ (option_map Fault (mail_steps.first_fault (a ∷ b ∷ None ∷ (if x then Some Worn else None) ∷ d ∷ [])) ≡ Some (Fault Worn))
 mail_fault_is None None None true p q r = inr refl
 mail_fault_is None None None false p q r = inl refl
 mail_fault_is (Some f) b d x p q r = absurd (cc p)
@@ -218,7 +218,7 @@ module _ (plan : Plan) (w : World) (still : w.flying ≡ []) (from to : ℕ) (f 
   pub push_worn : PushesFit from to node disk → IsRefusedAsWorn plan w (OfMessages (PushTo from to))
   push_worn light tells fault new (why, same) = ⊎_elim
       (λ faults. worn_alone (step_fault plan (OfMessages (PushTo from to)) w) fault worn faults)
-      (λ more. ⊎_elim (λ (none, is, start). is) (λ (none, is, crowded). absurd crowded) more)
+      (λ more. ⊎_elim (λ (none, is, start). is) (λ others. ⊎_elim (λ (none, is, crowded). absurd crowded) (λ unseen. absurd unseen) others) more)
       why
     where
       worn : (step_fault plan (OfMessages (PushTo from to)) w ≡ None) ⊎ (step_fault plan (OfMessages (PushTo from to)) w ≡ Some (Fault Worn))
@@ -232,7 +232,7 @@ module _ (plan : Plan) (w : World) (still : w.flying ≡ []) (from to : ℕ) (f 
   pub report_worn : IsRefusedAsWorn plan w (ReportTo from to)
   report_worn tells fault new (why, same) = ⊎_elim
       (λ faults. worn_alone (step_fault plan (ReportTo from to) w) fault worn faults)
-      (λ more. ⊎_elim (λ (none, is, start). is) (λ (none, is, crowded). absurd (roomy (sym (ap room_left still) ∙ full_of crowded))) more)
+      (λ more. ⊎_elim (λ (none, is, start). is) (λ others. ⊎_elim (λ (none, is, crowded). absurd (roomy (sym (ap room_left still) ∙ full_of crowded))) (λ unseen. absurd unseen) others) more)
       why
     where
       worn : (step_fault plan (ReportTo from to) w ≡ None) ⊎ (step_fault plan (ReportTo from to) w ≡ Some (Fault Worn))

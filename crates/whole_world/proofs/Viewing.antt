@@ -5,7 +5,7 @@ use Rattle.std.proofs.lemmas.Bool.{lt-ltb, le-leb}
 use Rattle.mail_model.specs.Plan.{Plan}
 use Rattle.mail_model.specs.Record.{Record}
 use Rattle.object_model.specs.Lists.{Among}
-use Rattle.object_model.specs.Letters.{Membership, Letter}
+use Rattle.object_model.specs.Letters.{Membership, Letter, is_read_body}
 use Rattle.object_model.specs.Mishaps.MishapKind.{Down as DownKind}
 use Rattle.object_model.proofs.Lists.{get_same}
 use Rattle.cluster_model.specs.Cluster as mail_cluster
@@ -36,6 +36,8 @@ use Rattle.whole_world.specs.Makes.DoesStep.{ForMessages, PostsMaps, Starts, Ope
 use Rattle.whole_world.specs.Regroup.{maps_in, maps_of_slot, maps_at, HasRoomFor}
 use Rattle.whole_world.proofs.Along.{mail_here, unseen_at}
 use Rattle.whole_world.proofs.Keeping.{maps_not_mail}
+use Rattle.whole_world.proofs.Stepwise.{read_is_mail}
+use Rattle.cluster_model.proofs.Reading.{fetch_reads}
 use Rattle.whole_world.proofs.Seeing.{put_slots}
 
 -- slots that are written, read
@@ -309,10 +311,24 @@ module _ (plan : Plan) (tells : Bool) (w new : World) (number : ℕ) (letter : L
   pub posted : (said : Said) → MakesStep plan tells w (OfMessages (Post number false)) (Says said) new → ((n : ℕ) → said ≢ Told (Faulted n)) → Posted w (front ++ back) letter said new
   posted said (fits, ForMessages one step answer says for_mail does follow) fine =
       let same : one ≡ Post number false = inside one step in
-      posts_mail answer (subst (Rattle.whole_world.specs.Makes.IsForMessages w) same for_mail) (subst (λ (k : mail_steps.Step). mail_makes.DoesStep plan tells Seen k answer (mail_world_of new)) same does) follow said says
+      either same (subst (λ (k : mail_steps.Step). mail_makes.DoesStep plan tells Seen k answer (mail_world_of new)) same does)
     where
       inside : (k : mail_steps.Step) → OfMessages (Post number false) ≡ OfMessages k → k ≡ Post number false
       inside k e = cc
+
+      either : one ≡ Post number false → mail_makes.DoesStep plan tells Seen (Post number false) answer (mail_world_of new) → Posted w (front ++ back) letter said new
+      either same (inl d) = posts_mail answer (subst (Rattle.whole_world.specs.Makes.IsForMessages w) same for_mail) d.0 follow said says
+      either same (inr d) = absurd (never (posted_read d))
+        where
+          posted_read : mail_makes.PostsRead Seen number false answer (mail_world_of new) → (f : mail.Flies Seen number) × (is_read_body f.letter.body ≡ true)
+          posted_read (mail_makes.PostsRead.NobodyUp f of nobody told g) = (f, of)
+          posted_read (mail_makes.PostsRead.OfOtherEpoch f node disk of up stale told g) = (f, of)
+          posted_read (mail_makes.PostsRead.TooLate f node disk of up fresh late told e) = (f, of)
+          posted_read (mail_makes.PostsRead.IsHeard f node disk of up fresh told g) = (f, of)
+          posted_read (mail_makes.PostsRead.FailsForReads f node disk of up fresh told g) = (f, fetch_reads f.letter.body of)
+
+          never : (f : mail.Flies Seen number) × (is_read_body f.letter.body ≡ true) → ⊥
+          never (f, of_read) = maps_not_mail letter.body of.body (read_is_mail letter.body (subst (λ (k : Letter). is_read_body k.body ≡ true) (sym (same_flight f).0) of_read))
   posted said (fits, PostsMaps other keep step h) fine =
       let parts = inside other keep step in
       posts_maps said fine (subst (λ k. HearsMaps w k false said new) parts.0 (subst (λ b. HearsMaps w other b said new) parts.1 h))

@@ -13,8 +13,8 @@ use Rattle.cluster_model.specs.Starts as mail_starts
 use Rattle.cluster_model.specs.Thrown.{Why, with_stamps, is_stale}
 use Rattle.cluster_model.specs.World as mail
 use Rattle.cluster_model.specs.Steps as mail_steps
-use Rattle.cluster_model.specs.Steps.Step.{Post, Form, Start}
-use Rattle.cluster_model.specs.Steps.StepFault.{Worn, NoRoom}
+use Rattle.cluster_model.specs.Steps.Step.{AskFor, GiveUp, Post, Form, Start}
+use Rattle.cluster_model.specs.Steps.StepFault.{NoSuchTicket, Worn, NoRoom}
 use Rattle.cluster_model.specs.Steps.Said.{Heard, Thrown, Sent, NodeUp, Faulted}
 use Rattle.cluster_model.specs.Makes as mail_makes
 use Rattle.maps_model.specs.Cluster as maps
@@ -24,7 +24,7 @@ use Rattle.whole_model.specs.Whole.Life.{Down}
 use Rattle.whole_model.specs.Rules.{IsMailBody, IsMapsBody, promise_records}
 use Rattle.whole_world.specs.World.{World, mail_world_of, slot_up, IsUp, FollowsAlong, Reaction, after, cut_world}
 use Rattle.whole_world.specs.Thrown.{is_before, refused_by}
-use Rattle.whole_world.specs.Steps.{Step, Said, StepOutcome, room_left, most_at_once, AreFirstDue, HasDue, HasNoneDue, step_fault}
+use Rattle.whole_world.specs.Steps.{Step, Said, StepFault, StepOutcome, room_left, most_at_once, AreFirstDue, HasDue, HasNoneDue, step_fault}
 use Rattle.whole_world.specs.Steps.Step.{OfMessages, OpenGroup, ConcludeGroup, ReportTo}
 use Rattle.whole_world.specs.Steps.Said.{Told, Grouped, Concluded}
 use Rattle.whole_world.specs.Steps.StepFault.{Fault}
@@ -130,7 +130,7 @@ pub data StartsUp (plan : Plan) (old : World) (n : ℕ) (said : Said) (new : Wor
       → new ≡ record old { slots = with_slot old.slots n (record { life = Down next; disk = records }); book = old.book ++ WentDown n ∷ [] }
       → StartsUp plan old n said new
 
--- A step is one for messages: of letters those that speak of messages, or that their receiver throws before it looks at them. A start has a rule of its own.
+-- A step is one for messages, or for calls that read: of letters those that do not speak of membership or maps, or that their receiver throws before it looks at them. A start has a rule of its own.
 abbrev pub IsForMessages : World → mail_steps.Step → Type 0
 IsForMessages w (Post number keep) =
     (flies : mail.Flies (mail_world_of w) number) (node : Node) (disk : List Record) → IsUp w flies.letter.to node disk → is_stale flies.letter node.mail.installed ≡ false → IsMailBody flies.letter.body
@@ -173,11 +173,17 @@ abbrev pub ReportHasNoRoom : World → Step → Type 0
 ReportHasNoRoom old (ReportTo from to) = FindsNoRoom old from to
 ReportHasNoRoom old step = ⊥
 
+-- An Ask and a GiveUp are refused where no call that reads has such a ticket, either, which is not seen here.
+abbrev pub IsUnseen : Plan → World → Step → StepFault → Type 0
+IsUnseen plan old (OfMessages (AskFor number)) fault = (fault ≡ Fault NoSuchTicket) × mail_makes.HasNoTicket plan (mail_world_of old) (AskFor number) number
+IsUnseen plan old (OfMessages (GiveUp number)) fault = (fault ≡ Fault NoSuchTicket) × mail_makes.HasNoTicket plan (mail_world_of old) (GiveUp number) number
+IsUnseen plan old step fault = ⊥
+
 abbrev pub MakesStep : Plan → Bool → World → Step → StepOutcome → World → Type 0
 MakesStep plan tells old step (Says said) new = (step_fault plan step old ≡ None) × DoesStep plan tells old step said new
 MakesStep plan tells old step (Refused fault) new =
     ((step_fault plan step old ≡ Some fault) ⊎ ((step_fault plan step old ≡ None) × (fault ≡ Fault Worn) × StartIsWorn old step)
-    ⊎ ((step_fault plan step old ≡ None) × (fault ≡ Fault NoRoom) × ReportHasNoRoom old step)) × (new ≡ old)
+    ⊎ ((step_fault plan step old ≡ None) × (fault ≡ Fault NoRoom) × ReportHasNoRoom old step) ⊎ IsUnseen plan old step fault) × (new ≡ old)
 MakesStep plan tells old step (NoMemory None) new = new ≡ old
 MakesStep plan tells old step (NoMemory (Some n)) new = RunsShort plan old step n new
 

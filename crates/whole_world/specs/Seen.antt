@@ -10,7 +10,7 @@ use Rattle.whole_world.specs.Steps.Step.{OfMessages, OpenGroup, ConcludeGroup, R
 use Rattle.whole_world.specs.Steps.Said.{Told, Grouped, Concluded}
 use Rattle.whole_world.specs.Steps.StepFault.{Fault, NotAGroup}
 use Rattle.whole_world.specs.Steps.StepOutcome.{Says, Refused, NoMemory}
-use Rattle.whole_world.specs.Makes.{MadeStep, MakesAll}
+use Rattle.whole_world.specs.Makes.{MadeStep, MakesStep, MakesAll}
 
 abbrev pub step_seen : Step → mail.Step
 step_seen (OfMessages step) = step
@@ -34,6 +34,11 @@ outcome_seen (NoMemory down) = mail.StepOutcome.NoMemory down
 
 abbrev pub made_seen : MadeStep → mail_makes.MadeStep
 made_seen made = record { step = step_seen made.step; outcome = outcome_seen made.outcome }
+
+-- Messages see each step, whatever comes of it, as the very same step of theirs, or as a Form.
+abbrev pub MailSees : Type 0
+MailSees = (plan : Plan) (tells : Bool) (old new : World) (step : Step) (outcome : StepOutcome) → MakesStep plan tells old step outcome new
+    → mail_makes.MakesStep plan tells (mail_world_of old) (step_seen step) (outcome_seen outcome) (mail_world_of new)
 
 -- Whatever steps are made, messages see that steps of theirs are made. So what holds of these holds in the whole world.
 abbrev pub MessagesSeeSteps : Type 0

@@ -1,6 +1,6 @@
 // The laws of a whole world.
 ghost use Rattle.whole_world.specs.Laws.{StepsKeep};
-ghost use Rattle.whole_world.specs.Seen.{MessagesSeeSteps};
+ghost use Rattle.whole_world.specs.Seen.{MailSees, MessagesSeeSteps};
 ghost use Rattle.whole_world.specs.Worked.{OneNodeRegroups};
 ghost use Rattle.whole_world.specs.Epochs.{EpochsBegin, BeginsAnew, PostIsWorn, StaleChangesNothing};
 ghost use Rattle.whole_world.specs.First.{FirstStands, FirstIsCharted, FirstIsSettled};
@@ -12,6 +12,11 @@ ghost use Rattle.whole_world.specs.Settled.{OpeningStands, OneMapPerEpoch, Promi
 /// Whatever steps are made, both invariants stay.
 pub fn steps_keep()
     ensures { StepsKeep }
+{}
+
+/// Messages see each step as the very same step of theirs, or as a Form.
+pub fn mail_sees()
+    ensures { MailSees }
 {}
 
 /// Whatever steps are made, messages see that steps of theirs are made.
@@ -144,7 +149,7 @@ pub fn sweep_is_worn()
     ensures { SweepIsWorn }
 {}
 
-/// A letter of another epoch changes nothing at its receiver, but for the mishap at its ticket.
+/// A letter of another epoch changes nothing at its receiver, but for what is done where the letter's ticket stands.
 pub fn stale_changes_nothing()
     ensures { StaleChangesNothing }
 {}

@@ -31,8 +31,8 @@
 //! - `Worked`: one node starts over an empty disk and regroups.
 //!
 //! The laws are functions that do nothing, and their contracts hold of the definitions alone. Three
-//! lead to the others: `steps_keep`, `regroup_forms` and `settle_settles`. And `messages_see_steps` says
-//! that a chain of steps is one of `cluster_model`, as messages see it.
+//! lead to the others: `steps_keep`, `regroup_forms` and `settle_settles`. And `mail_sees` says that
+//! each step is one of `cluster_model`, as messages see it, and `messages_see_steps` that a chain is.
 //!
 //! A node has no epoch when it starts: what it enters is formed by a regroup. A cluster opens in a first epoch, which is formed
 //! without a letter: `first_stands`.
@@ -45,8 +45,9 @@
 //!
 //! It has no code, and no line of the program uses it. It does not say that letters come, that a node
 //! finds a map for its group, or how soon a cluster has settled; only that each sweep that finds
-//! something due uses up numbers of letters. Calls that read have the rules of `cluster_model`: those
-//! over several nodes are in `login_model`. The book has no entry of an epoch that was installed.
+//! something due uses up numbers of letters. Of calls that read it says what
+//! messages see of them: their rules are in `login_model`, and the world with these is that of
+//! `joint_world`. The book has no entry of an epoch that was installed.
 #![tactic(auto)]
 
 mod laws;
@@ -54,8 +55,8 @@ mod laws;
 pub use laws::{
     ack_clears, begins_anew, epochs_begin, first_due_are_found, first_due_are_one,
     first_is_charted, first_is_settled, first_stands, flows_bring_no_epoch, flows_stay, holds_here,
-    maps_name_fragments, members_agree, messages_see_steps, one_map_per_epoch, one_node_regroups,
-    opening_is_charted, opening_stands, post_is_worn, promises_stand, push_is_acked,
-    quiet_is_settled, regroup_forms, reports_are_one, reports_go, settle_settles,
+    mail_sees, maps_name_fragments, members_agree, messages_see_steps, one_map_per_epoch,
+    one_node_regroups, opening_is_charted, opening_stands, post_is_worn, promises_stand,
+    push_is_acked, quiet_is_settled, regroup_forms, reports_are_one, reports_go, settle_settles,
     stale_changes_nothing, steps_chart, steps_keep, sweep_is_worn, sweeps_send, sweeps_stay,
 };

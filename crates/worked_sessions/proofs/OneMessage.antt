@@ -273,6 +273,7 @@ owes = record {
     once = λ k user given items among. absurd (let never = only_delivery k (Login user given) _ among in cc);
     named = λ k user given items among. absurd (let never = only_delivery k (Login user given) _ among in cc);
   };
+  listings = λ k user given items among. absurd (let never = only_delivery k (Login user given) _ among in cc);
   parts = λ told. record {
     sizes = λ k user given items among. absurd (let never = only_delivery k (Login user given) _ among in cc);
     parts = λ k user id part among. absurd (let never = only_delivery k (Fetch user id) _ among in cc);

@@ -1,9 +1,14 @@
 -- The promises to readers are false of what they must not meet.
 use Rattle.std.proofs.Common.{◌≡◌, ◌⊎◌, inl, inr, ℕ, zero, suc, Bool, true, false, List, [], ◌∷◌, ◌++◌, length, get_or, flat_map, Option, Some, None, Ok, refl, sym, ap, ◌∙◌, subst, arith, codes, if◌then◌else◌, append-nil}
+use Rattle.std.specs.Prelude.{slice_get}
 use Rattle.std.specs.Fmt.{decimal}
 use Rattle.std.proofs.lemmas.Option.{none-some}
 use Rattle.std.proofs.lemmas.List.Elements.{All-nil, All-cons}
 use Rattle.mail_model.specs.Identity.{Id, id_text}
+use Rattle.mail_model.specs.Identity.Key.{Message}
+use Rattle.mail_model.specs.Identity.Value.{Here}
+use Rattle.mail_model.specs.Record.{Record, IsAmongRecords}
+use Rattle.mail_model.specs.Record.Record.{Stated}
 use Rattle.mail_model.specs.Lines.{HasNoCrlf, sent_line}
 use Rattle.mail_model.specs.Listing.{is_same_id}
 use Rattle.mail_model.specs.Maildrop.{wrong_text, entered_text, deleted_in}
@@ -24,6 +29,7 @@ use Rattle.mail_model.specs.Transcript.{Entry}
 use Rattle.mail_model.proofs.Sessions.{by_number}
 use Rattle.session_model.specs.Calls.Call.{Login, Fetch}
 use Rattle.session_model.specs.Calls.Answer.{Listed, Part}
+use Rattle.session_model.specs.Copies.{HasRecordOf}
 use Rattle.session_model.specs.Talk.{TalkState, Lead, Exchange, IsLed, TalkGoes, opening_state, lead_of, line_lead, stands}
 use Rattle.session_model.specs.Talk.TalkState.{Entering, Reading}
 use Rattle.session_model.specs.Talk.Lead.{Asks}
@@ -31,12 +37,12 @@ use Rattle.session_model.specs.Talk.Standing.{Hearing}
 use Rattle.session_model.specs.Reading.{line_of, seen_exchange}
 use Rattle.session_model.specs.Readings.{view, views, AreLines}
 use Rattle.session_model.specs.Sessions.{Session, IsSession, AreSessions, session_at}
-use Rattle.session_model.specs.Promises.{AreFiled, ShownOnce}
+use Rattle.session_model.specs.Promises.{AreFiled, ShownOnce, ShownAreOwn}
 use Rattle.session_model.proofs.InOrder.{kind_there}
 use Rattle.session_model.proofs.Readings.{one_reading}
 use Rattle.session_model.proofs.Telling.{quit_was_sent}
 use Rattle.worked_sessions.specs.OneMessage.{small_plan, small_octets, at_once}
-use Rattle.worked_sessions.specs.WrongReaders.{WrongReaders, DeletedNot, ShowsNot, reader_lines, reader_entries, gone_records, other_text, small_item, other_reply, other_top, filed_small, twice_reply}
+use Rattle.worked_sessions.specs.WrongReaders.{WrongReaders, DeletedNot, ShowsNot, reader_lines, reader_entries, gone_records, other_text, small_item, other_reply, other_top, filed_small, twice_reply, unowned_reply, unowned_records}
 use Rattle.worked_sessions.proofs.Lines.{whole_line, has_alice, idle_line}
 use Rattle.worked_sessions.proofs.OneMessage.{size}
 use Rattle.worked_sessions.proofs.Alike.{shown_at}
@@ -301,6 +307,59 @@ lists_two sessions are once =
     (inl (asked, subst (HasLine _) (sym a.same_reply) (inr (inl refl)))) a.are (inl (asked, subst (HasLine _) (sym a.same_reply) (inr (inr (inl refl))))) in
     absurd (omega (arith, one_is_two))
 
+-- the worked reader that is shown a message of nobody
+abbrev owner : Session
+owner = record {
+  protocol = Pop;
+  node = 1;
+  octets = flat_map sent_line (codes "USER alice" ∷ codes "PASS tanstaaf" ∷ codes "UIDL 1" ∷ []);
+  whole = at_once (codes "USER alice") (codes "+OK send PASS") ∷ pass (small_item ∷ []) ∷ uidl ∷ [];
+  others = [];
+  standing = Hearing (Reading (codes "alice") listed);
+  rest = [];
+}
+
+owner_goes : TalkGoes small_plan 1 (Hearing (opening_state Pop)) owner.octets (owner.whole ++ []) owner.standing []
+owner_goes = (
+  flat_map sent_line (codes "PASS tanstaaf" ∷ codes "UIDL 1" ∷ []),
+  record { is_unit = whole_line (codes "USER alice") refl; whole = refl; led = (refl, refl, refl) },
+  (
+    sent_line (codes "UIDL 1"),
+    record { is_unit = whole_line (codes "PASS tanstaaf") refl; whole = refl; led = subst (λ (lead : Lead). IsLed lead (pass (small_item ∷ []))) (sym (pass_leads (small_item ∷ []))) (refl, refl) },
+    subst (λ (lead : Lead). TalkGoes small_plan 1 (stands small_plan (named (small_item ∷ [])) (pass (small_item ∷ [])) lead) (sent_line (codes "UIDL 1")) (uidl ∷ []) owner.standing []) (sym (pass_leads (small_item ∷ []))) (
+      [],
+      record { is_unit = whole_line (codes "UIDL 1") refl; whole = refl; led = (refl, refl, refl) },
+      (refl, refl),
+    ),
+  ),
+)
+
+abbrev owner_lines : List (List ℕ)
+owner_lines = reader_lines (codes "say 2 UIDL 1" ∷ [])
+
+owner_is : IsSession small_plan owner_lines (reader_entries (unowned_reply ∷ [])) 2 owner
+owner_is = record { talk = record { before = owner.standing; goes = owner_goes; ends = refl }; fed = refl; gets = record { part = []; missing = []; are = refl; cut = refl } }
+
+no_record : (user : List ℕ) (id : Id) → HasRecordOf (unowned_records ∷ []) user id → ⊥
+no_record user id has = by has.n has.at has.says
+  where
+    by : (n : ℕ) → slice_get (unowned_records ∷ []) n ≡ Some has.records → IsAmongRecords (Stated (Message user id) (record { value = Here; stamp = has.stamp; targets = has.targets })) has.records → ⊥
+    by zero at says = none unowned_records (let same : unowned_records ≡ has.records = cc at in subst (IsAmongRecords (Stated (Message user id) (record { value = Here; stamp = has.stamp; targets = has.targets }))) (sym same) says)
+      where
+        none : (records : List Record) → IsAmongRecords (Stated (Message user id) (record { value = Here; stamp = has.stamp; targets = has.targets })) unowned_records → ⊥
+        none records (inl is) = cc is
+        none records (inr later) = later
+    by (suc n) at says = none-some has.records at
+
+owns_none : (sessions : List Session) → AreSessions small_plan owner_lines (reader_entries (unowned_reply ∷ [])) sessions → ShownAreOwn (unowned_records ∷ []) sessions → ⊥
+owns_none sessions are own =
+    let s = shown_at small_plan owner_lines (reader_entries (unowned_reply ∷ [])) sessions are 1 Pop 1 refl in
+    let same = one_reading small_plan owner_lines (reader_entries (unowned_reply ∷ [])) 2 s.session owner s.speaks s.there s.is owner_is in
+    let a = found_view s.session.whole (views (at_once (codes "USER alice") (codes "+OK send PASS") ∷ pass (small_item ∷ []) ∷ [])) [] uidl.unit unowned_reply [] same in
+    let (user, id, enters, named, has) = own 2 s.session s.at s.speaks 1 (id_text (nth_id 1)) a.before a.behind a.one (omega arith) a.are
+    (inr (ap (λ (u : Unit). pop_command_of (line_of u)) a.same_unit, a.same_reply)) in
+    no_record user id has
+
 pub wrong_readers : WrongReaders
 wrong_readers = record {
   gone_by_close = deleted_not (codes "say 2 DELE 1" ∷ codes "close 2" ∷ []) refl refl;
@@ -309,4 +368,5 @@ wrong_readers = record {
   shows_another_text = shows_not (codes "RETR 1") other_reply retr_is _ _ refl refl no_retr;
   shows_another_top = shows_not (codes "TOP 1 0") other_top top_is _ _ refl refl no_top;
   lists_twice = lists_two;
+  shows_unowned = owns_none;
 }

@@ -1,4 +1,4 @@
--- What readers must not meet: a copy that is gone without a QUIT, a text that is not the one that is filed, and one message listed twice. The promises are false of
+-- What readers must not meet: a copy that is gone without a QUIT, a text that is not the one that is filed, one message listed twice, and one that is nobody's. The promises are false of
 -- each, whoever chooses the sessions.
 use Rattle.std.specs.Prelude.{ℕ, List, [], ◌∷◌, ◌++◌, flat_map, length, Option, codes}
 use Rattle.mail_model.specs.Identity.{Id}
@@ -9,12 +9,12 @@ use Rattle.mail_model.specs.Listing.{octets_in}
 use Rattle.mail_model.specs.Maildrop.{entered_text}
 use Rattle.mail_model.specs.PopReplies.{Item, id_line, octets_text, last_line, ready_text}
 use Rattle.mail_model.specs.Record.{Record}
-use Rattle.mail_model.specs.Record.Record.{Stated}
+use Rattle.mail_model.specs.Record.Record.{Octets, Stated}
 use Rattle.mail_model.specs.Site.{nth_id, nth_stamp}
 use Rattle.mail_model.specs.Transcript.{Entry, said_lines}
 use Rattle.session_model.specs.Sessions.{Session, AreSessions}
-use Rattle.session_model.specs.Promises.{DeletedByQuit, ShownAsFiled, ShownOnce}
-use Rattle.worked_sessions.specs.OneMessage.{small_plan, small_lines, small_entries, small_records}
+use Rattle.session_model.specs.Promises.{DeletedByQuit, ShownAsFiled, ShownOnce, ShownAreOwn}
+use Rattle.worked_sessions.specs.OneMessage.{small_plan, small_lines, small_entries, small_octets, small_records}
 
 -- the message is told, and its reader enters; then come these lines
 abbrev pub reader_lines : List (List ℕ) → List (List ℕ)
@@ -59,6 +59,13 @@ ShowsNot command reply = (sessions : List Session)
 abbrev pub twice_reply : List (List ℕ)
 twice_reply = codes "+OK unique ids" ∷ id_line 1 small_item ∷ id_line 2 small_item ∷ last_line
 
+-- the octets of the message, of which no user has a copy
+abbrev pub unowned_reply : List ℕ
+unowned_reply = codes "+OK " ++ id_line 1 small_item
+
+abbrev pub unowned_records : List Record
+unowned_records = Octets (nth_id 1) small_octets ∷ []
+
 -- The reader marked the message, and then: its client closed; the node crashed; nothing of the tape was left, so that a QUIT behind its line `end` was not handled.
 pub record WrongReaders : Type 0 where
   pub gone_by_close : DeletedNot (codes "say 2 DELE 1" ∷ codes "close 2" ∷ [])
@@ -69,3 +76,6 @@ pub record WrongReaders : Type 0 where
   pub shows_another_top : ShowsNot (codes "TOP 1 0") other_top
   -- one message has two numbers
   pub lists_twice : (sessions : List Session) → AreSessions small_plan (reader_lines (codes "say 2 UIDL" ∷ [])) (reader_entries twice_reply) sessions → ShownOnce sessions → ⊥
+  -- UIDL shows a message of which no node has a record as a copy of anybody
+  pub shows_unowned : (sessions : List Session) → AreSessions small_plan (reader_lines (codes "say 2 UIDL 1" ∷ [])) (reader_entries (unowned_reply ∷ [])) sessions
+      → ShownAreOwn (unowned_records ∷ []) sessions → ⊥

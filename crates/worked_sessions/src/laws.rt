@@ -36,7 +36,7 @@ pub fn wrong_stores()
 {}
 
 /// A copy that is gone without a QUIT, a text that is not the one that is filed, shown by RETR or by TOP,
-/// and one message listed twice do not keep the promises to readers.
+/// one message listed twice, and one that is nobody's do not keep the promises to readers.
 pub fn wrong_readers()
     ensures { WrongReaders }
 {}

@@ -5,10 +5,10 @@ ghost use Rattle.node_tickets.specs.Seen.{ask_seen};
 ghost use Rattle.world_book.specs.Books.{entries_of as all_of, spare_of};
 ghost use Rattle.cluster_world.specs.Flights.{InFlight};
 ghost use Rattle.cluster_world.specs.Installs.{installs_in, installs_booked};
-ghost use Rattle.cluster_world.specs.Lives.{all_falls_left, CanWorkOn};
+ghost use Rattle.cluster_world.specs.Lives.{of_node, all_falls_left, CanWorkOn};
 ghost use Rattle.cluster_world.specs.Worlds.{state_with, life_among};
 ghost use Rattle.cluster_world.specs.Turns.{node_refusal};
-ghost use Rattle.cluster_world.specs.Asking.{IsUpWhole, IsDoneAt, AreForTicket, confirms, AsksNode};
+ghost use Rattle.cluster_world.specs.Asking.{IsUpWhole, StandsAmongMails, IsDoneAt, AreForTicket, confirms, AsksNode};
 ghost use Rattle.cluster_world.specs.Steps.{StepDid, AreSettled};
 ghost use Rattle.cluster_world.specs.Sure.{IsSurelyDone};
 ghost use Rattle.cluster_world.specs.declared.step.Step.TheVariants as step;
@@ -114,7 +114,7 @@ fn enter(book: &mut Book, ask: &Ask, entries: Vec<Entry>)
     }
 }
 
-/// Asks what became of a call. One that is done ends, and the book has what was confirmed. Where it is not done this takes no
+/// Asks what became of a call of messages. One that is done ends, and the book has what was confirmed. Where it is not done this takes no
 /// memory.
 pub(crate) fn ask_for<D: Disk>(
     alloc: Global,
@@ -123,6 +123,7 @@ pub(crate) fn ask_for<D: Disk>(
     ticket: &Ticket,
 ) -> Result<Said, StepFault>
     requires fit { node_refusal nodes.old.plan (life_among nodes.old) (step.Ask ticket.now) ≡ None }
+    requires mail { StandsAmongMails ticket.now (of_node nodes.old.lives.items ticket.now.node) }
     requires ready { CanWorkOn D.seen nodes.old.plan nodes.old.lives.items nodes.old.disks.items }
     requires room { all_falls_left nodes.old.lives.items ≤ spare_of book.old }
     ensures did { (flying : InFlight) (seconds : ℕ) → StepDid (view_of D.seen D.faults D.clock) result (step.Ask ticket.now) (state_with nodes.old flying seconds book.old) (state_with nodes.new flying seconds book.new) }
@@ -135,7 +136,7 @@ pub(crate) fn ask_for<D: Disk>(
     let entries = entries_at(alloc, nodes.at(node_of(ticket)), ticket)?;
     make_room(book, entries.len(), nodes.most_falls())?;
     let Some(ask) = nodes.ask(ticket) else {
-        return Err(StepFault::NoSuchTicket);
+        unreachable!()
     };
     enter(book, &ask, entries);
     Ok(Said::Asked(ask))

@@ -2,6 +2,7 @@
 ghost use Rattle.std.specs.Prelude.{◌≡◌, ◌+◌, ◌≤◌, ◌<◌, ◌⊎◌, ◌++◌, ◌∷◌, true, [], length, All, None, Ok, IsTrue, IfOk, OnErr};
 ghost use Rattle.mail_model.specs.Lines.{ends_in_crlf};
 ghost use Rattle.cluster_model.specs.Makes.{struck_entries};
+ghost use Rattle.joint_world.specs.Staying.{IsMailCall};
 ghost use Rattle.node_store.specs.Disks.{view_of};
 ghost use Rattle.node_core.specs.Beginning.{call_seen, struck_of, IsTextEnded};
 ghost use Rattle.whole_node.specs.Hearing.{FitsMaps};
@@ -14,7 +15,7 @@ ghost use Rattle.cluster_world.specs.Installs.{installs_in, installs_booked};
 ghost use Rattle.cluster_world.specs.Worlds.{state_with, life_among};
 ghost use Rattle.cluster_world.specs.Turns.{node_refusal};
 ghost use Rattle.cluster_world.specs.Unfinished.{said_of_fault};
-ghost use Rattle.cluster_world.specs.Begins.{BeginsAt, HasRule, strikes_of_call, said_of_begin, entries_of_failure, GoesOn, Concludes};
+ghost use Rattle.cluster_world.specs.Begins.{BeginsAt, strikes_of_call, said_of_begin, entries_of_failure, GoesOn, Concludes};
 ghost use Rattle.cluster_world.specs.Missing.{SentOff};
 ghost use Rattle.cluster_world.specs.Changes.{ChangesNode};
 ghost use Rattle.cluster_world.specs.Steps.{StepDid, AreSettled};
@@ -65,16 +66,6 @@ fn text_is_ended(call: &Call) -> bool
     }
 }
 
-/// Whether the call has a rule in a plan of so many nodes.
-fn has_rule(nodes: u8, call: &Call) -> bool
-    ensures { IsTrue result → HasRule nodes (call_seen call.now) }
-{
-    match call {
-        Call::Deliver(_) | Call::Strike { .. } => true,
-        Call::Login { .. } | Call::Fetch { .. } | Call::Leave { .. } => nodes == 1,
-    }
-}
-
 // The entry of one copy that is to be deleted.
 fn struck(user: &Name, item: &Item) -> Result<Entry, AllocError>
     ensures { IfOk result (λ entry. entry ≡ written.Struck user.now item.now.id) }
@@ -120,6 +111,7 @@ fn begin_in<D: Disk>(
 ) -> Result<(Option<Ticket>, Outbox), NodeFault>
     requires fit { node_refusal nodes.old.plan (life_among nodes.old) (Begin node call) ≡ None }
     requires works { CanWorkOn D.seen nodes.old.plan nodes.old.lives.items nodes.old.disks.items }
+    requires mail { IsMailCall (call_seen call) }
     requires ended { IsTextEnded (call_seen call) }
     ensures begins { ChangesNode node (BeginsAt (view_of D.seen D.faults D.clock) D.settled nodes.old.plan node seconds (call_seen call) result) nodes.old nodes.new }
     ensures fits { IfOk result (λ begun. All FitsMaps (begun.1).letters) }
@@ -129,7 +121,6 @@ fn begin_in<D: Disk>(
         alloc,
         &mut nodes.lives[place],
         &mut nodes.disks[place],
-        &nodes.plan.users,
         call,
         seconds,
     )
@@ -156,7 +147,7 @@ fn send_some<D: Disk>(
 }
 
 /// What is said of a call that has begun.
-fn begun(ticket: Option<Ticket>) -> Said
+pub(crate) fn begun(ticket: Option<Ticket>) -> Said
     ensures { result ≡ said_of_begin ticket }
 {
     match ticket {
@@ -261,18 +252,7 @@ fn conclude<D: Disk>(
     }
 }
 
-/// Whether the call can begin in a plan of so many nodes: it has a rule, and hands in a text that is whole.
-fn can_begin(nodes: u8, call: &Call) -> bool
-    ensures rule { IsTrue result → HasRule nodes (call_seen call.now) }
-    ensures ended { IsTrue result → IsTextEnded (call_seen call.now) }
-{
-    if !has_rule(nodes, call) {
-        return false;
-    }
-    text_is_ended(call)
-}
-
-/// Begins a call at a node that is up. The book has at once what a Strike is to delete, also where the node goes down in it.
+/// Begins a call of messages at a node that is up. The book has at once what a Strike is to delete, also where the node goes down in it.
 pub(crate) fn begin_call<D: Disk>(
     alloc: Global,
     nodes: &mut Nodes<D>,
@@ -284,6 +264,7 @@ pub(crate) fn begin_call<D: Disk>(
 ) -> Result<Said, StepFault>
     requires fit { node_refusal nodes.old.plan (life_among nodes.old) (Begin node call) ≡ None }
     requires ready { CanWorkOn D.seen nodes.old.plan nodes.old.lives.items nodes.old.disks.items }
+    requires mail { IsMailCall (call_seen call) }
     requires room { all_falls_left nodes.old.lives.items ≤ spare_of book.old }
     ensures did { StepDid (view_of D.seen D.faults D.clock) result (Begin node call) (state_with nodes.old flying.old seconds book.old) (state_with nodes.new flying.new seconds book.new) }
     ensures ready { CanWorkOn D.seen nodes.new.plan nodes.new.lives.items nodes.new.disks.items }
@@ -294,7 +275,7 @@ pub(crate) fn begin_call<D: Disk>(
     if is_worn(flying.sent()) {
         return Err(StepFault::Worn);
     }
-    if !can_begin(nodes.plan.nodes, &call) {
+    if !text_is_ended(&call) {
         return Err(StepFault::NoMemory { down: None });
     }
     let entries = struck_in(alloc, &call)?;

@@ -1,9 +1,10 @@
 //! A letter is handed to its receiver.
-ghost use Rattle.std.specs.Prelude.{◌≡◌, ◌+◌, ◌≤◌, ◌<◌, ℕ, All, true, Some, IfOk, is_some};
+ghost use Rattle.std.specs.Prelude.{◌≡◌, ◌+◌, ◌≤◌, ◌<◌, ℕ, All, true, false, Some, IfOk, is_some};
 ghost use Rattle.mail_base.specs.Bodies.{body_seen};
 ghost use Rattle.node_store.specs.Disks.{view_of};
 ghost use Rattle.cluster_world.specs.Hears.{CanBeHeard, AllCanBeHeard};
-ghost use Rattle.node_core.specs.Weights.{weight_of, weight_of_all};
+ghost use Rattle.object_model.specs.Letters.{Letter as PlainLetter, is_read_body};
+ghost use Rattle.cluster_model.specs.Steps.{letter_at};
 ghost use Rattle.whole_node.specs.Hearing.{FitsMaps};
 ghost use Rattle.world_book.specs.Books.{spare_of};
 ghost use Rattle.cluster_world.specs.Flights.{taken_out};
@@ -35,14 +36,14 @@ use std::alloc::{AllocError, Global};
 use world_book::Book;
 
 /// To whom a letter goes.
-fn receiver_of(letter: &Letter) -> NodeNo
+pub(crate) fn receiver_of(letter: &Letter) -> NodeNo
     ensures { result ≡ letter.now.to }
 {
     letter.to
 }
 
 /// Whether the node is up.
-fn has_up<D>(nodes: &Nodes<D>, node: NodeNo) -> bool
+pub(crate) fn has_up<D>(nodes: &Nodes<D>, node: NodeNo) -> bool
     ensures { result ≡ is_up_life (life_among nodes.now node) }
 {
     match nodes.life(node) {
@@ -52,7 +53,7 @@ fn has_up<D>(nodes: &Nodes<D>, node: NodeNo) -> bool
 }
 
 /// The letter that is to leave, if it is not kept.
-fn out_of(number: u64, keep: bool) -> Option<u64>
+pub(crate) fn out_of(number: u64, keep: bool) -> Option<u64>
     ensures { result ≡ out_of number keep }
 {
     if keep { None } else { Some(number) }
@@ -75,9 +76,9 @@ fn hear_in<D: Disk>(
 ) -> Result<Outbox, NodeFault>
     requires up { is_up_life (life_among nodes.old letter.now.to) ≡ true }
     requires works { CanWorkOn D.seen nodes.old.plan nodes.old.lives.items nodes.old.disks.items }
+    requires kind { is_read_body letter.now.body ≡ false }
     requires fits { CanBeHeard letter.now }
     ensures hears { ChangesNode letter.now.to (HearsAtNode (view_of D.seen D.faults D.clock) D.settled nodes.old.plan letter.now.to letter.now result) nodes.old nodes.new }
-    ensures light { IfOk result (λ outbox. weight_of_all outbox.letters < weight_of letter.now) }
     ensures fits { IfOk result (λ outbox. All FitsMaps outbox.letters) }
 {
     let place = place_of(receiver_of(letter));
@@ -313,6 +314,7 @@ fn hand_letter<D: Disk>(
     keep: bool,
 ) -> Result<Said, StepFault>
     requires ready { CanWorkOn D.seen nodes.old.plan nodes.old.lives.items nodes.old.disks.items }
+    requires mail { (letter : PlainLetter) → letter_at number flying.old.flights ≡ Some letter → is_read_body letter.body ≡ false }
     requires room { all_falls_left nodes.old.lives.items ≤ spare_of book.old }
     ensures did { (seconds : ℕ) → StepDid (view_of D.seen D.faults D.clock) result (step.Post number keep) (state_with nodes.old flying.old seconds book.old) (state_with nodes.new flying.new seconds book.new) }
     ensures ready { CanWorkOn D.seen nodes.new.plan nodes.new.lives.items nodes.new.disks.items }
@@ -345,7 +347,7 @@ fn hand_letter<D: Disk>(
     )
 }
 
-/// Hands a letter to its receiver. It leaves, or is kept in flight, so that it can be posted again; where memory runs out it
+/// Hands a letter that is of no call that reads to its receiver. It leaves, or is kept in flight, so that it can be posted again; where memory runs out it
 /// stays. Its ticket has a mishap where the receiver is not up, has another epoch, or has a disk fault. Of an Install that the
 /// receiver hears the book has the epoch.
 pub(crate) fn post_letter<D: Disk>(
@@ -357,6 +359,7 @@ pub(crate) fn post_letter<D: Disk>(
     keep: bool,
 ) -> Result<Said, StepFault>
     requires ready { CanWorkOn D.seen nodes.old.plan nodes.old.lives.items nodes.old.disks.items }
+    requires mail { (letter : PlainLetter) → letter_at number flying.old.flights ≡ Some letter → is_read_body letter.body ≡ false }
     requires room { all_falls_left nodes.old.lives.items ≤ spare_of book.old }
     ensures did { (seconds : ℕ) → StepDid (view_of D.seen D.faults D.clock) result (step.Post number keep) (state_with nodes.old flying.old seconds book.old) (state_with nodes.new flying.new seconds book.new) }
     ensures ready { CanWorkOn D.seen nodes.new.plan nodes.new.lives.items nodes.new.disks.items }

@@ -69,7 +69,7 @@ fn strike(alloc: Global, holder: NodeNo) -> Result<Call, AllocError> {
 fn leave(alloc: Global, manager: NodeNo) -> Result<Call, AllocError> {
     Ok(Call::Leave {
         user: ann(alloc)?,
-        login: Ticket::new(manager, 1, 1),
+        login: Ticket::new(manager, 1, 2),
         manager,
     })
 }

@@ -11,26 +11,27 @@ use std::alloc::{AllocError, Global};
 use std::test::Fail;
 
 // At one node.
-const AT_ONE: [[u8; 4]; 30] = [
+const AT_ONE: [[u8; 4]; 32] = [
     // The plan has one node.
     *b"u1b1", *b"u2do", *b"D2do",
     // A message is stored at once. Its ticket stands once: it is Down afterwards, and giving it up passes it over.
     *b"D1B1", *b"?0S1", *b"?0do", *b"!0..",
     // It is listed, read, deleted, and gone.
-    *b"L1B2", *b"?1L1", *b"F1B3", *b"?2O.", *b"X1B4", *b"?3X.", *b"F1B5", *b"?4G.", *b"L1B6",
-    *b"?5L0",
-    // A secret that is wrong.
-    *b"W1B7", *b"?6W.",
+    *b"L1B2", *b"?1L1", *b"F1B3", *b"?2O.", *b"X1B4", *b"?3X.", *b"F1B5", *b"?4G.",
+    // Another login waits until that one is left.
+    *b"L1B6", *b"?5U.",
     // A Leave is begun, and not by `begin`; and no other call is begun by `leave`.
-    *b"E1..", *b"V1do", *b"e1do",
+    *b"E1..", *b"V1do", *b"e1do", *b"L1B7", *b"?6L0",
+    // A secret that is wrong.
+    *b"W1B8", *b"?7W.",
     // A ticket that is not as it was handed out stands no more, and then the right one still does.
-    *b"D1B8", *b"d7do", *b"k7do", *b"?7S1",
+    *b"D1B9", *b"d8do", *b"k8do", *b"?8S1",
     // A call is given up. Nothing is in flight.
-    *b"D1B9", *b"!8..", *b"?8do", *b"p.qu",
+    *b"D1B+", *b"!9..", *b"?9do", *b"p.qu",
 ];
 
 // At three nodes, of which two have to confirm.
-const AT_THREE: [[u8; 4]; 55] = [
+const AT_THREE: [[u8; 4]; 56] = [
     // A message waits for letters.
     *b"D1B1", *b"?0P1", *b"p.po", *b"?0P1", *b"p.po", *b"p.po", *b"?0S3", *b"p.po", *b"p.qu",
     // One is given up, and its letters are posted all the same.
@@ -45,8 +46,8 @@ const AT_THREE: [[u8; 4]; 55] = [
     *b"p.qu", *b"c1..", *b"p.po", *b"p.po", *b"p.qu", *b"D1B2",
     // The others are down: the message fails once its letters are posted.
     *b"C2..", *b"C3..", *b"?4P1", *b"p.po", *b"p.po", *b"?4F.", *b"p.qu",
-    // What the plan has no node for, and what has no rule among several.
-    *b"u4do", *b"L1me", *b"E1me",
+    // What the plan has no node for. Node 1 manages ann, and knows of its own mail of her alone.
+    *b"u4do", *b"L1B3", *b"?5L4", *b"E1..",
 ];
 
 // How many rows are left, where each before them answered as it is to.
@@ -114,6 +115,6 @@ fn each_call_answers_at_three_nodes(rt: HostRuntime) -> Result<(), Fail> {
     };
     let left = left_of(alloc, &mut pass, &mut Vec::new(alloc), &AT_THREE)?;
     assert_eq!(rt; left, 0);
-    assert_eq!(rt; counted(&pass), [1, 0, 0, 0, 0, 0, 2, 6, 0]);
+    assert_eq!(rt; counted(&pass), [1, 1, 0, 0, 0, 0, 2, 6, 1]);
     Ok(())
 }

@@ -81,7 +81,7 @@ const AT_ONE: [Talk<'static>; 5] = [
     },
 ];
 
-// A message waits for two nodes. POP3 has no rule among several.
+// A message waits for two nodes, and so does its deletion.
 const AT_THREE: [Talk<'static>; 2] = [
     Talk {
         pop: false,
@@ -92,8 +92,8 @@ const AT_THREE: [Talk<'static>; 2] = [
     Talk {
         pop: true,
         says: READ,
-        hears: b"+OK node1 ready <1.12.0@node1>\r\n+OK send PASS\r\n",
-        served: Served::NoMemory,
+        hears: READ_ALL,
+        served: Served::Ended,
     },
 ];
 
@@ -243,8 +243,8 @@ fn mail_waits_for_other_nodes(rt: HostRuntime) -> Result<(), Fail> {
     assert_eq!(rt; all_go(&rt, alloc, &mut pass, &plan, &TOO_FEW), 1);
     assert!(rt; made(alloc, &mut pass, &[*b"C1.."])?);
     assert_eq!(rt; all_go(&rt, alloc, &mut pass, &plan, &DOWN), 2);
-    assert_eq!(rt; counted(&pass), [1, 0, 0, 0, 0, 0, 1, 2, 0]);
-    assert_eq!(rt; booked(&pass.into_world()), (1, 0, 0));
+    assert_eq!(rt; counted(&pass), [1, 1, 0, 1, 0, 1, 1, 2, 1]);
+    assert_eq!(rt; booked(&pass.into_world()), (1, 1, 1));
     Ok(())
 }
 

@@ -5,13 +5,14 @@ ghost use Rattle.mail_model.specs.Names.{IsLowerName, is_secret};
 ghost use Rattle.mail_model.specs.Lines.{ends_in_crlf};
 ghost use Rattle.mail_base.specs.Bodies.{body_seen};
 ghost use Rattle.mail_base.specs.Seen.{key_seen};
-ghost use Rattle.node_core.specs.Beginning.{IsTextEnded, call_seen};
+ghost use Rattle.mail_base.specs.Delivers.{mail_in};
+ghost use Rattle.cluster_model.specs.Steps.NodeCall.{Deliver as Delivers};
+ghost use Rattle.node_core.specs.Beginning.{IsTextEnded};
 ghost use Rattle.node_core.specs.Spelling.{CanBeTaken};
 
-use call_tickets::Call;
 use mail_base::{
     Body, Deliver, EpochId, Ids, Item, Items, Key, Letter, MsgId, Name, Names, NodeNo, NodeSet,
-    ObjState, Octets, Proof, Secret, Sequence, Stamp, StrikeMark, Ticket, Value, apop_digest,
+    ObjState, Octets, Secret, Sequence, Stamp, StrikeMark, Ticket, Value,
 };
 use std::alloc::{AllocError, Global};
 
@@ -82,7 +83,7 @@ fn users_at(alloc: Global, line: &[u8]) -> Result<Names, AllocError> {
 }
 
 /// Ann's secret.
-pub(super) fn secret_of(alloc: Global) -> Result<Secret, AllocError> {
+fn secret_of(alloc: Global) -> Result<Secret, AllocError> {
     match Secret::read(alloc, b"tulip")? {
         Some(secret) => Ok(secret),
         None => Err(AllocError),
@@ -228,85 +229,38 @@ pub(super) fn letter_at(alloc: Global, line: &[u8], to: NodeNo) -> Result<Letter
     })
 }
 
-pub(super) fn deliver_at(alloc: Global, line: &[u8]) -> Result<Call, AllocError>
-    ensures { IfOk result (λ call. IsTextEnded (call_seen call)) }
+pub(super) fn deliver_at(alloc: Global, line: &[u8]) -> Result<Deliver, AllocError>
+    ensures { IfOk result (λ deliver. IsTextEnded (Delivers (mail_in deliver))) }
 {
-    Ok(Call::Deliver(Deliver {
+    Ok(Deliver {
         users: users_at(alloc, line)?,
         sender: Octets::new(alloc),
         helo: Octets::new(alloc),
         extended: false,
         text: octets_of(alloc)?,
-    }))
+    })
 }
 
-/// The message is to be deleted, and with a 2 also the next one.
-pub(super) fn deletion_at(alloc: Global, line: &[u8]) -> Result<Call, AllocError>
-    ensures { IfOk result (λ call. IsTextEnded (call_seen call)) }
-{
-    let item = Item {
-        id: id_at(line),
+fn item_of(line: &[u8], id: MsgId) -> Item {
+    Item {
+        id,
         stamp: stamp_at(line),
         targets: targets_at(line),
         holders: NodeSet::empty(),
         length: 0,
-    };
+    }
+}
+
+/// The message of the line, and with a 2 also the next one.
+pub(super) fn items_at(alloc: Global, line: &[u8]) -> Result<Items, AllocError> {
+    let id = id_at(line);
     let mut items = Items::new(alloc);
-    items.push(item)?;
+    items.push(item_of(line, id))?;
     if digit(line, 13) == 2 {
-        let next = MsgId::new(item.id.node(), item.id.boot(), 9).unwrap();
-        items.push(Item { id: next, ..item })?;
+        let next = MsgId::new(id.node(), id.boot(), 9).unwrap();
+        items.push(item_of(line, next))?;
     }
-    Ok(Call::Strike {
-        user: named(alloc, b"ann")?,
-        items,
-    })
-}
-
-/// Ann gives the digest of a banner and her secret, with this banner.
-fn digest_with(alloc: Global, banner: &[u8]) -> Result<Proof, AllocError> {
-    Ok(Proof::Apop {
-        banner: Octets::from_vec(Vec::from_slice(alloc, banner)?),
-        digest: apop_digest(b"<1.2.3@node1>", b"tulip"),
-    })
-}
-
-fn secret_given(alloc: Global, secret: &[u8]) -> Result<Proof, AllocError> {
-    Ok(Proof::Pass(Octets::from_vec(Vec::from_slice(alloc, secret)?)))
-}
-
-fn proof_at(alloc: Global, sign: u8) -> Result<Proof, AllocError> {
-    match sign {
-        b'x' => secret_given(alloc, b"lotus"),
-        b'd' => digest_with(alloc, b"<1.2.3@node1>"),
-        b'o' => digest_with(alloc, b"<1.2.4@node1>"),
-        b'e' => digest_with(alloc, b""),
-        _ => secret_given(alloc, b"tulip"),
-    }
-}
-
-/// Ann gives her secret, or where the line has an x one that is as long. With a d she gives the digest of her
-/// banner; with an o it comes with another one, and with an e with none.
-pub(super) fn login_at(alloc: Global, line: &[u8]) -> Result<Call, AllocError>
-    ensures { IfOk result (λ call. IsTextEnded (call_seen call)) }
-{
-    Ok(Call::Login {
-        user: named(alloc, b"ann")?,
-        proof: proof_at(alloc, at(line, 13))?,
-    })
-}
-
-/// So many octets at most of the message, behind so many that are passed over.
-pub(super) fn fetch_at(alloc: Global, line: &[u8]) -> Result<Call, AllocError>
-    ensures { IfOk result (λ call. IsTextEnded (call_seen call)) }
-{
-    Ok(Call::Fetch {
-        user: named(alloc, b"ann")?,
-        id: id_at(line),
-        holders: NodeSet::empty(),
-        from: u64::from(digit(line, 8)),
-        most: u64::from(digit(line, 11)),
-    })
+    Ok(items)
 }
 
 /// How many letters a push finds room for, and how many octets: those of so many letters that carry no message.

@@ -3,9 +3,7 @@ ghost use Rattle.node_core.specs.Nodes.{IsWhole};
 
 use super::lines::{ROW, id_at, named, node_at, object_at};
 use call_tickets::{Answer, Ask};
-use mail_base::{
-    Body, CallKind, Items, Key, Letter, MsgId, ObjState, Octets, Stamp, Ticket, Value,
-};
+use mail_base::{Body, CallKind, Key, Letter, MsgId, ObjState, Stamp, Ticket, ToldPart, Value};
 use node_core::{Node, Outbox, Why};
 use std::alloc::{AllocError, Global};
 
@@ -116,8 +114,9 @@ pub(super) fn say_outbox(out: &mut Vec<u8>, outbox: &Outbox) -> Result<(), Alloc
     Ok(())
 }
 
-/// Writes each message of a listing: its id, its stamp, its targets and the last digit of its length.
-fn say_items(out: &mut Vec<u8>, items: &Items) -> Result<(), AllocError> {
+/// Writes each message that the node tells of ann: its id, its stamp, its targets and the last digit of its length.
+pub(super) fn say_list(alloc: Global, node: &Node, out: &mut Vec<u8>) -> Result<(), AllocError> {
+    let items = node.told_list(alloc, &named(alloc, b"ann")?)?;
     out.extend_from_slice(b" listed")?;
     for item in items.as_slice() {
         let mut row = ROW;
@@ -131,17 +130,26 @@ fn say_items(out: &mut Vec<u8>, items: &Items) -> Result<(), AllocError> {
     Ok(())
 }
 
-/// Writes the octets of a part of a message, with a point for each that can't be seen, and the last digit of the whole length.
-fn say_part(out: &mut Vec<u8>, octets: &Octets, whole: u64) -> Result<(), AllocError> {
-    out.push(b' ')?;
-    for octet in octets.as_slice() {
-        out.push(if octet.is_ascii_graphic() {
-            *octet
-        } else {
-            b'.'
-        })?;
+/// Writes the octets of a part of a message, with a point for each that can't be seen, and the last digit of the whole length; or
+/// the stamp of one that is not there.
+pub(super) fn say_part(out: &mut Vec<u8>, part: &ToldPart) -> Result<(), AllocError> {
+    match part {
+        ToldPart::Octets { octets, whole } => {
+            out.push(b' ')?;
+            for octet in octets.as_slice() {
+                out.push(if octet.is_ascii_graphic() {
+                    *octet
+                } else {
+                    b'.'
+                })?;
+            }
+            out.extend_from_slice(&[b'/', one(*whole)])
+        }
+        ToldPart::Gone { stamp } => {
+            out.extend_from_slice(b" gone ")?;
+            out.extend_from_slice(&[one(stamp.count), one(u64::from(stamp.node))])
+        }
     }
-    out.extend_from_slice(&[b'/', one(whole)])
 }
 
 pub(super) fn say_ask(out: &mut Vec<u8>, ask: &Option<Ask>) -> Result<(), AllocError> {
@@ -163,13 +171,8 @@ pub(super) fn say_ask(out: &mut Vec<u8>, ask: &Option<Ask>) -> Result<(), AllocE
                 }
                 Ok(())
             }
-            Answer::Listed { items, .. } => say_items(out, items),
-            Answer::Wrong { .. } => out.extend_from_slice(b" wrong"),
-            Answer::InUse { .. } => out.extend_from_slice(b" in-use"),
-            Answer::NoProfile { .. } => out.extend_from_slice(b" no-profile"),
-            Answer::Part { octets, whole } => say_part(out, octets, *whole),
-            Answer::GoneAlready => out.extend_from_slice(b" gone"),
             Answer::Failed(_) => out.extend_from_slice(b" failed"),
+            _ => out.extend_from_slice(b" read"),
         },
     }
 }

@@ -1,13 +1,13 @@
 // Tickets by hand: what node 1 hears, and what an ask then answers.
 //
 // The lines are written as those of a node. Column 15 has the number of the ticket and column 17 the boot that drew it; `f` and `s`
-// are heard, and behind an `s` stands a b where the deletion is one of bob. A failed call tells how many nodes were down, and how
+// are heard, and behind an `s` stands a b where the deletion is one of bob, and an o or a t where it tells of two. A failed call tells how many nodes were down, and how
 // many dates there were none for.
 use super::asked;
 use super::lines::{at, digit, id_at, lines_of, named, node_at};
 use super::says::{one, say_ask, say_whether};
 use call_tickets::{Answer, Ask, Mishaps};
-use mail_base::{Body, CallKind, Filing, Ids, Names, NodeSet, Stamp, Ticket};
+use mail_base::{Body, CallKind, Filing, Ids, MsgId, Names, NodeSet, Ticket};
 use node_tickets::{MishapKind, Tickets};
 use std::alloc::{AllocError, Global};
 use std::process::Abort;
@@ -63,17 +63,35 @@ g - --- -- - - 2 1 > no
 g - --- -- - - 1 1 > yes
 a - --- -- - - 1 1 > none";
 
-/// A login with another secret, and a fetch of what is gone: their answers are there as they begin.
-const READ: &[u8] = b"\
-i - --- -- - - 2 1 > e00y-
-m 1 --- -- - - 2 1 > yes
-a - --- -- - - 2 1 > gone
-a - --- -- - - 2 1 > none
-a - --- -- - - 1 1 > wrong";
+/// Node 2 tells of both deletions, in the order in which it was asked, and in the other.
+const BOTH: &[u8] = b"\
+s 2 111 -- - o 1 1 > yes
+a - --- -- - - 1 1 > dropped 32";
+
+const TURNED: &[u8] = b"\
+s 2 111 -- - t 1 1 > yes
+a - --- -- - - 1 1 > dropped 32";
 
 fn ticket_of(line: &[u8]) -> Ticket {
     let boot = u32::from(digit(line, 17).max(1));
     Ticket::new(node_at(b"1", 0), boot, u64::from(digit(line, 15)))
+}
+
+// The message; with an o and with a t both messages of the deletions, in their order and turned round.
+fn ids_of(alloc: Global, sign: u8, id: MsgId) -> Result<Ids, AllocError> {
+    let mut ids = Ids::new(alloc);
+    match sign {
+        b'o' => {
+            ids.push(id_at(b"    111"))?;
+            ids.push(id_at(b"    112"))?;
+        }
+        b't' => {
+            ids.push(id_at(b"    112"))?;
+            ids.push(id_at(b"    111"))?;
+        }
+        _ => ids.push(id)?,
+    }
+    Ok(ids)
 }
 
 fn hears(alloc: Global, tickets: &mut Tickets, line: &[u8]) -> Result<bool, AllocError> {
@@ -82,8 +100,7 @@ fn hears(alloc: Global, tickets: &mut Tickets, line: &[u8]) -> Result<bool, Allo
         return Ok(tickets.told(ticket, from, &Body::Filed { id }));
     }
     let user: &[u8] = if at(line, 13) == b'b' { b"bob" } else { b"ann" };
-    let mut ids = Ids::new(alloc);
-    ids.push(id)?;
+    let ids = ids_of(alloc, at(line, 13), id)?;
     let user = named(alloc, user)?;
     Ok(tickets.told(ticket, from, &Body::StrikeTold { user, ids }))
 }
@@ -214,14 +231,6 @@ fn failed(alloc: Global) -> Result<Tickets, AllocError> {
     Ok(tickets)
 }
 
-fn found(alloc: Global) -> Result<Tickets, AllocError> {
-    let stamp = Stamp::new(0, 0, 0);
-    let mut tickets = none(alloc, 2);
-    tickets.open_found(alloc, 1, CallKind::Login, Answer::Wrong { stamp })?;
-    tickets.open_found(alloc, 2, CallKind::Fetch, Answer::GoneAlready)?;
-    Ok(tickets)
-}
-
 #[test]
 fn tickets_hear_and_answer(rt: HostRuntime) -> Result<(), Fail> {
     let alloc = rt.alloc();
@@ -229,6 +238,7 @@ fn tickets_hear_and_answer(rt: HostRuntime) -> Result<(), Fail> {
     stands(&rt, alloc, delivery(alloc, 2)?, AFTER_ALL)?;
     stands(&rt, alloc, delivery(alloc, 2)?, DOWN)?;
     stands(&rt, alloc, deletion(alloc)?, TWO)?;
-    stands(&rt, alloc, failed(alloc)?, AT_ONCE)?;
-    stands(&rt, alloc, found(alloc)?, READ)
+    stands(&rt, alloc, deletion(alloc)?, BOTH)?;
+    stands(&rt, alloc, deletion(alloc)?, TURNED)?;
+    stands(&rt, alloc, failed(alloc)?, AT_ONCE)
 }

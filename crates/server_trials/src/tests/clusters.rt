@@ -347,9 +347,15 @@ go
 // What there is no letter, no node or no session for.
 const REFUSED: &[u8] = b"\
 open pop 1
-  ! line 7 BadLine
+  1 +OK node1 ready <1.1.0@node1>
+crash 2
+  * node 2 down
+open pop 2
+  ! line 9 NodeDown
+open pop 0
+  ! line 7 NoSuchNode
 open pop 4
-  ! line 7 BadLine
+  ! line 7 NoSuchNode
 open smtp 0
   ! line 7 NoSuchNode
 open smtp 4

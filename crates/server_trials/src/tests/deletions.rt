@@ -103,6 +103,8 @@ say 2 LIST
   2 +OK listing
   2 2 124
   2 .
+regroup 1
+  * epoch 2.1 members 1
 open pop 1
   3 +OK node1 ready <1.3.0@node1>
 say 3 USER alice
@@ -116,7 +118,8 @@ say 2 QUIT
   * 2 closed
 ";
 
-// Another session lists what was there at its login, and is told that a message is gone. It may delete what is gone already.
+// Another session, which an epoch let in beside the first, lists what was there at its login, and is told that a message is gone. It
+// may delete what is gone already.
 const OTHERS: &[u8] = b"\
 say 3 RETR 1
   3 -ERR message was deleted
@@ -257,6 +260,7 @@ fn three_messages(alloc: Global) -> Result<Journal, Fail> {
 // That of a QUIT after them, and of a message that comes then.
 fn deleted(alloc: Global) -> Result<Journal, Fail> {
     let mut journal = three_messages(alloc)?;
+    journal.promise(2)?;
     for number in [1, 3, 1] {
         journal.gone(b"alice", number)?;
     }

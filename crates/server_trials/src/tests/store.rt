@@ -112,6 +112,14 @@ impl Journal {
         Ok(())
     }
 
+    /// Node 1 promises the epoch of this count that it opens itself.
+    pub(super) fn promise(&mut self, count: u64) -> Result<(), Fail> {
+        self.payload.push(2)?;
+        self.add(&count.to_be_bytes())?;
+        self.payload.push(1)?;
+        self.record()
+    }
+
     /// The user's copy of this message is gone, with the next stamp.
     pub(super) fn gone(&mut self, user: &[u8], number: u64) -> Result<(), Fail> {
         self.count = self.count.saturating_add(1);

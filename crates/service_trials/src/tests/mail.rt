@@ -1,4 +1,4 @@
-// A message that goes in by SMTP is read back by POP3; and at three nodes it has two copies.
+// A message that goes in by SMTP is read back by POP3; and at three nodes it has two copies, and is read at another node.
 
 use super::plans::plan;
 use super::signals::Signals;
@@ -109,7 +109,7 @@ C
 >stop
 ";
 
-// At three nodes mail is taken at each, and read at none.
+// At three nodes mail is taken at each, and read at one that took none of it, once the cluster has settled.
 const THREE_NODES: &[u8] = b"\
 S1
 <220 node1 Porcupine ready
@@ -143,12 +143,37 @@ S3@1
 <250 stored
 >QUIT
 <221 node3 closing
-P1@2
-<-ERR [SYS/PERM] no mail is read in a cluster of several nodes
+P2@9
+<+OK node2 ready <1.3.0@node2>
+>USER ann
+<+OK send PASS
+>PASS sesame
+<+OK maildrop open
+>UIDL
+<+OK unique ids
+<1 1.1.1
+<2 3.1.1
+<.
+>RETR 2
+<+OK 125 octets
+<Return-Path: <>
+<Received: from c.example
+< by node3 with SMTP id <3.1.1@node3>;
+< Thu, 01 Jan 1970 00:00:00 +0000
+<another
+<.
+>DELE 1
+<+OK message 1 deleted
+>QUIT
+<+OK bye
 C
+@2
+>settle
+<*0 settled
+!9
 @3
 >sum
-<*0 sum acked 3 struck 0 dropped 0 lost 0
+<*0 sum acked 3 struck 1 dropped 1 lost 0
 >stop
 ";
 
@@ -183,7 +208,7 @@ fn mail_of_three_nodes_has_two_copies(rt: HostRuntime) -> Result<(), Fail> {
     agrees_wholly(&rt, &signals, THREE_NODES);
     assert_eq!(rt; end, STOPPED);
     let entries = world.book().entries();
-    assert_eq!(rt; entries.len(), 3);
+    assert_eq!(rt; entries.len(), 5);
     assert_eq!(rt; confirmers(entries.first(), b"ann", 1), 2);
     assert_eq!(rt; confirmers(entries.get(1), b"alice@example.org", 1), 2);
     assert_eq!(rt; confirmers(entries.get(2), b"ann", 3), 2);

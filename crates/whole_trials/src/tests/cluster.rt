@@ -4,11 +4,13 @@ ghost use Rattle.std.specs.Prelude.{◌<◌, length, IfOk, IfSome};
 use super::lines::{asked, at, digit, lines_of, node_at};
 use super::says::name_of;
 use super::site::{Site, named};
-use mail_base::{Letter, NodeNo};
+use mail_base::{Letter, MsgId, NodeNo, NodeSet};
 use node_core::NodeFault;
+use node_tickets::MishapKind;
 use std::alloc::{AllocError, Global};
 use std::process::Abort;
 use std::test::Fail;
+use whole_node::is_of_reads;
 
 /// The nodes and the letters between them.
 #[derive(Drop)]
@@ -124,7 +126,39 @@ impl Trial {
         Ok(self.flying.remove(place))
     }
 
+    // The letter of a call that reads had a mishap: its ticket notes it.
+    fn befalls(
+        &mut self,
+        letter: &Letter,
+        kind: MishapKind,
+        out: &mut Vec<u8>,
+    ) -> Result<(), AllocError> {
+        let Some(ticket) = &letter.ticket else {
+            return Ok(());
+        };
+        let at = if letter.from == ticket.node {
+            letter.to
+        } else {
+            letter.from
+        };
+        let place = self.place(ticket.node.number())?;
+        self.sites[place].befall(*ticket, kind, at, &mut self.flying, out)
+    }
+
+    // Hands a letter of a call that reads over.
+    fn hand_read(&mut self, letter: &Letter, out: &mut Vec<u8>) -> Result<(), AllocError> {
+        let place = self.place(letter.to.number())?;
+        let mishap = self.sites[place].hear_read(self.alloc, letter, &mut self.flying, out)?;
+        match mishap {
+            Some(kind) => self.befalls(letter, kind, out),
+            None => Ok(()),
+        }
+    }
+
     fn hand_over(&mut self, letter: &Letter, out: &mut Vec<u8>) -> Result<(), AllocError> {
+        if is_of_reads(&letter.body) {
+            return self.hand_read(letter, out);
+        }
         let place = self.place(letter.to.number())?;
         self.sites[place].hear(self.alloc, letter, &mut self.flying, out)
     }
@@ -144,8 +178,12 @@ impl Trial {
         self.hand_over(&letter, out)
     }
 
-    fn drop(&mut self, place: usize) -> Result<(), AllocError> {
-        self.take(place)?;
+    // Drops it. A call of messages is not told; one that reads is.
+    fn drop(&mut self, place: usize, out: &mut Vec<u8>) -> Result<(), AllocError> {
+        let letter = self.take(place)?;
+        if is_of_reads(&letter.body) {
+            return self.befalls(&letter, MishapKind::Dropped, out);
+        }
         Ok(())
     }
 
@@ -158,7 +196,7 @@ impl Trial {
         match at(line, 0) {
             b'p' => self.post(place, out),
             b'a' => self.post_again(place, out),
-            _ => self.drop(place),
+            _ => self.drop(place, out),
         }
     }
 
@@ -195,8 +233,37 @@ impl Trial {
         }
     }
 
+    // A fetch of the message of a node, which the nodes of a mask are said to hold.
+    fn fetches(&mut self, line: &[u8], out: &mut Vec<u8>) -> Result<(), AllocError> {
+        let place = self.place(digit(line, 2))?;
+        let id = MsgId::new(node_at(line, 4)?, 1, 1).ok_or(AllocError)?;
+        let holders = NodeSet::from_mask(u16::from(digit(line, 5)));
+        self.sites[place].fetch(self.alloc, id, holders, &mut self.flying, out)
+    }
+
+    // What the node that the line names does for calls that read.
+    fn reads(&mut self, line: &[u8], out: &mut Vec<u8>) -> Result<(), AllocError> {
+        let place = self.place(digit(line, 2))?;
+        let seq = u64::from(digit(line, 4));
+        match at(line, 0) {
+            b'b' => self.sites[place].log_in(self.alloc, at(line, 4), &mut self.flying, out),
+            b'i' => self.sites[place].ask(self.alloc, seq, out),
+            b'g' => self.sites[place].give_up(seq, &mut self.flying, out),
+            b'u' => {
+                let manager = node_at(line, 5)?;
+                self.sites[place].leave(self.alloc, seq, manager, &mut self.flying, out)
+            }
+            _ => {
+                let ann = named(self.alloc, b"ann")?;
+                self.sites[place].hold(&ann, out)
+            }
+        }
+    }
+
     fn does(&mut self, line: &[u8], out: &mut Vec<u8>) -> Result<(), AllocError> {
         match at(line, 0) {
+            b'e' => self.fetches(line, out),
+            b'b' | b'i' | b'g' | b'u' | b'k' => self.reads(line, out),
             b'p' | b'a' | b'd' => self.moves(line, out),
             b'o' => self.open_group(digit(line, 2), out),
             b'c' => self.conclude(digit(line, 2), out),
@@ -238,6 +305,36 @@ fn plays_opened(alloc: Global, table: &[u8]) -> Result<Vec<u8>, AllocError> {
     let lines = lines_of(alloc, table)?;
     let mut trial = Trial::opened(alloc)?;
     trial.plays(&lines)
+}
+
+// A message of ann is at nodes 1 and 3, and node 1, which manages her, knows of both.
+const FILED: &[u8] = b"\
+m 3    > F31
+p F31  > f13
+p f13  >
+r 3 1  > R31
+p R31  > A13
+p A13  >";
+
+// First those lines, and then the table.
+fn plays_read(alloc: Global, table: &[u8]) -> Result<Vec<u8>, AllocError> {
+    let lines = lines_of(alloc, FILED)?;
+    let mut trial = Trial::opened(alloc)?;
+    let wrong = trial.plays(&lines)?;
+    if !wrong.is_empty() {
+        return Ok(wrong);
+    }
+    let lines = lines_of(alloc, table)?;
+    trial.plays(&lines)
+}
+
+/// Each line of the table comes as it is written, once a message of ann is at nodes 1 and 3.
+pub(crate) fn stands_read(rt: &impl Abort, alloc: Global, table: &[u8]) -> Result<(), Fail> {
+    let Ok(wrong) = plays_read(alloc, table) else {
+        panic!(rt; "out of memory");
+    };
+    assert_eq!(rt; str::from_utf8(&wrong)?, "");
+    Ok(())
 }
 
 /// So it does of nodes that begin in the first epoch.

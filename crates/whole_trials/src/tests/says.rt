@@ -16,6 +16,13 @@ fn kind_of(body: &Body) -> u8 {
         Body::ReportAck { .. } => b'A',
         Body::File { .. } => b'F',
         Body::Filed { .. } => b'f',
+        Body::LoginAsk { .. } => b'L',
+        Body::LoginTold { .. } => b'l',
+        Body::ListAsk { .. } => b'C',
+        Body::ListTold { .. } => b'c',
+        Body::FetchAsk { .. } => b'E',
+        Body::FetchTold { .. } => b'e',
+        Body::Unlock { .. } => b'U',
         _ => b'?',
     }
 }

@@ -1,18 +1,22 @@
 // A node over its disk in memory, and what it does by the lines of a table.
-ghost use Rattle.std.specs.Prelude.{◌≡◌, ◌≤◌, ◌<◌, ℕ, List, Option, true, is_some, IfOk, IsTrue, if◌then◌else◌, None, Some};
+ghost use Rattle.std.specs.Prelude.{◌≡◌, ◌≤◌, ◌<◌, ℕ, List, Option, true, false, is_some, IfOk, IsTrue, if◌then◌else◌, None, Some};
 ghost use Rattle.mail_model.specs.Grammar.{IsStamp};
 ghost use Rattle.mail_base.specs.Bodies.{body_seen};
 ghost use Rattle.node_core.specs.Beginning.{IsTextEnded, call_seen};
 ghost use Rattle.node_core.specs.Spelling.{CanBeTaken};
+ghost use Rattle.object_model.specs.Letters.{is_read_body};
+ghost use Rattle.joint_world.specs.Staying.{IsMailCall};
 ghost use Rattle.whole_node.specs.Hearing.{FitsMaps};
 ghost use Rattle.whole_node.specs.declared.node.WholeNode.{WholeNode as AWholeNode};
 ghost use Rattle.whole_trials.specs.Able.{octets_told, IsAble, left_by};
 
-use super::says::{one, say_epoch, say_letters, say_members, say_why};
+use super::tells::{
+    look_at, say_fault, say_named, say_owed, say_started, send, tell_begun, tell_concluded,
+    tell_heard, tell_opened,
+};
 use call_tickets::Call;
 use mail_base::{
-    Body, Deliver, EpochId, Letter, Name, Names, NodeNo, Octets, Plan, Sequence, Stamp, Ticket,
-    Users,
+    Body, Deliver, Letter, Name, Names, NodeNo, Octets, Plan, Sequence, Stamp, Ticket, Users,
 };
 use membership::Install;
 use node_core::{Node, NodeFault, Outbox};
@@ -20,14 +24,14 @@ use node_disk::{Image, MemoryDisk};
 use node_maps::Concluded;
 use std::alloc::{AllocError, Global};
 use std::marker::Model;
-use whole_node::{Grouped, WholeNode, fits_maps};
+use whole_node::{Grouped, WholeNode, fits_maps, is_of_reads};
 
 /// A node with its disk. It is up, or down.
 #[derive(Drop)]
 pub(crate) struct Site {
-    own: NodeNo,
-    disk: MemoryDisk,
-    node: Option<WholeNode>,
+    pub(super) own: NodeNo,
+    pub(super) disk: MemoryDisk,
+    pub(super) node: Option<WholeNode>,
 }
 
 impl Model for Site {
@@ -66,7 +70,8 @@ fn plan_of(alloc: Global) -> Result<Plan, AllocError>
 
 /// A message to ann.
 fn hello(alloc: Global) -> Result<Call, AllocError>
-    ensures { IfOk result (λ call. IsTextEnded (call_seen call)) }
+    ensures ended { IfOk result (λ call. IsTextEnded (call_seen call)) }
+    ensures mail { IfOk result (λ call. IsMailCall (call_seen call)) }
 {
     let mut users = Names::new(alloc);
     users.push(named(alloc, b"ann")?)?;
@@ -117,7 +122,7 @@ fn can_be_taken(body: &Body) -> bool
     }
 }
 
-fn is_up(node: &Option<WholeNode>) -> bool
+pub(super) fn is_up(node: &Option<WholeNode>) -> bool
     ensures { result ≡ is_some node.now }
 {
     node.is_some()
@@ -136,7 +141,7 @@ fn goes_down<T>(did: &Result<T, NodeFault>) -> bool
 }
 
 /// The node goes down, if it has to.
-fn settle<T>(node: &mut Option<WholeNode>, did: &Result<T, NodeFault>)
+pub(super) fn settle<T>(node: &mut Option<WholeNode>, did: &Result<T, NodeFault>)
     ensures { (up : AWholeNode) → node.old ≡ Some up → node.new ≡ left_by did.now up }
 {
     if goes_down(did) {
@@ -168,6 +173,7 @@ fn hear_at(
 ) -> Result<Outbox, NodeFault>
     requires up { is_some node.old ≡ true }
     requires able { IsAble (octets_told disk.old) node.old }
+    requires kind { is_read_body letter.now.body ≡ false }
     requires spelt { CanBeTaken letter.now.body }
     requires fits { FitsMaps letter.now }
     ensures able { IsAble (octets_told disk.new) node.new }
@@ -184,16 +190,16 @@ fn begin_at(
     alloc: Global,
     disk: &mut MemoryDisk,
     node: &mut Option<WholeNode>,
-    users: &Users,
     call: Call,
 ) -> Result<(Option<Ticket>, Outbox), NodeFault>
     requires up { is_some node.old ≡ true }
     requires able { IsAble (octets_told disk.old) node.old }
+    requires mail { IsMailCall (call_seen call) }
     requires ended { IsTextEnded (call_seen call) }
     ensures able { IsAble (octets_told disk.new) node.new }
 {
     let done = match node {
-        Some(up) => up.begin(alloc, disk, users, call, 0),
+        Some(up) => up.begin(alloc, disk, call, 0),
         None => unreachable!(),
     };
     settle(node, &done);
@@ -257,144 +263,6 @@ fn leave_all(disk: &mut MemoryDisk) -> Result<(), AllocError>
     disk.leave(Image::All)
 }
 
-/// Writes letters, and adds them to those in flight.
-fn send(
-    letters: Vec<Letter>,
-    flying: &mut Vec<Letter>,
-    out: &mut Vec<u8>,
-) -> Result<(), AllocError> {
-    say_letters(out, letters.as_slice())?;
-    for letter in letters {
-        flying.push(letter)?;
-    }
-    Ok(())
-}
-
-fn say_fault(out: &mut Vec<u8>, fault: NodeFault) -> Result<(), AllocError> {
-    match fault {
-        NodeFault::Disk => out.extend_from_slice(b" fell"),
-        NodeFault::Worn => out.extend_from_slice(b" worn"),
-        NodeFault::NoMemory { .. } => Err(AllocError),
-    }
-}
-
-fn tell_outbox(
-    outbox: Outbox,
-    flying: &mut Vec<Letter>,
-    out: &mut Vec<u8>,
-) -> Result<(), AllocError> {
-    say_why(out, &outbox.thrown)?;
-    send(outbox.letters.into_vec(), flying, out)
-}
-
-fn tell_heard(
-    heard: Result<Outbox, NodeFault>,
-    flying: &mut Vec<Letter>,
-    out: &mut Vec<u8>,
-) -> Result<(), AllocError> {
-    match heard {
-        Ok(outbox) => tell_outbox(outbox, flying, out),
-        Err(fault) => say_fault(out, fault),
-    }
-}
-
-fn tell_begun(
-    begun: Result<(Option<Ticket>, Outbox), NodeFault>,
-    flying: &mut Vec<Letter>,
-    out: &mut Vec<u8>,
-) -> Result<(), AllocError> {
-    match begun {
-        Ok((_, outbox)) => tell_outbox(outbox, flying, out),
-        Err(fault) => say_fault(out, fault),
-    }
-}
-
-fn tell_group(
-    epoch: EpochId,
-    letters: Vec<Letter>,
-    flying: &mut Vec<Letter>,
-    out: &mut Vec<u8>,
-) -> Result<(), AllocError> {
-    say_epoch(out, epoch)?;
-    send(letters, flying, out)
-}
-
-fn tell_opened(
-    opened: Result<Grouped, NodeFault>,
-    flying: &mut Vec<Letter>,
-    out: &mut Vec<u8>,
-) -> Result<(), AllocError> {
-    match opened {
-        Ok(done) => tell_group(done.epoch, done.letters.into_vec(), flying, out),
-        Err(fault) => say_fault(out, fault),
-    }
-}
-
-fn tell_concluded(
-    concluded: Result<Option<Concluded>, NodeFault>,
-    flying: &mut Vec<Letter>,
-    out: &mut Vec<u8>,
-) -> Result<(), AllocError> {
-    match concluded {
-        Ok(Some(done)) => tell_group(done.epoch, done.letters.into_vec(), flying, out),
-        Ok(None) => out.extend_from_slice(b" none"),
-        Err(fault) => say_fault(out, fault),
-    }
-}
-
-// Writes the epoch that is installed, with its members.
-fn say_installed(install: &Install, out: &mut Vec<u8>) -> Result<(), AllocError> {
-    say_epoch(out, install.epoch)?;
-    say_members(out, install.members.as_slice())
-}
-
-fn look_at(node: &WholeNode, out: &mut Vec<u8>) -> Result<(), AllocError> {
-    let group = node.maps().group();
-    say_epoch(out, group.promise())?;
-    match group.installed() {
-        Some(install) => say_installed(install, out),
-        None => out.extend_from_slice(b" none"),
-    }
-}
-
-fn say_started(node: &WholeNode, out: &mut Vec<u8>) -> Result<(), AllocError> {
-    out.extend_from_slice(&[b' ', one(u64::from(node.mail().boot()))])?;
-    say_epoch(out, node.maps().group().promise())
-}
-
-fn say_named(node: &WholeNode, user: &Name, out: &mut Vec<u8>) -> Result<(), AllocError> {
-    let set = node.named(user);
-    if set.count() == 0 {
-        return out.extend_from_slice(b" none");
-    }
-    out.push(b' ')?;
-    for number in 1..4u8 {
-        if let Some(other) = NodeNo::new(number) {
-            if set.has(other) {
-                out.push(one(u64::from(number)))?;
-            }
-        }
-    }
-    Ok(())
-}
-
-// To whom a row of the node is due, and whether it owes nobody anything.
-fn say_owed(node: &WholeNode, out: &mut Vec<u8>) -> Result<(), AllocError> {
-    out.push(b' ')?;
-    for number in 1..4u8 {
-        if let Some(other) = NodeNo::new(number) {
-            if node.owes_rows(other) {
-                out.push(one(u64::from(number)))?;
-            }
-        }
-    }
-    if node.is_settled() {
-        out.extend_from_slice(b"settled")
-    } else {
-        out.extend_from_slice(b"-")
-    }
-}
-
 impl Site {
     /// A node whose journal is made, and which is down.
     pub(crate) fn new(alloc: Global, own: NodeNo) -> Result<Site, NodeFault> {
@@ -455,7 +323,7 @@ impl Site {
         leave_all(&mut self.disk)
     }
 
-    /// It hears a letter.
+    /// It hears a letter that is none of calls that read.
     pub(crate) fn hear(
         &mut self,
         alloc: Global,
@@ -466,7 +334,7 @@ impl Site {
         if !is_up(&self.node) {
             return out.extend_from_slice(b" down");
         }
-        if !can_be_taken(&letter.body) || !fits_maps(letter) {
+        if is_of_reads(&letter.body) || !can_be_taken(&letter.body) || !fits_maps(letter) {
             return out.extend_from_slice(b" unfit");
         }
         let heard = hear_at(alloc, &mut self.disk, &mut self.node, letter);
@@ -511,9 +379,8 @@ impl Site {
         if !is_up(&self.node) {
             return out.extend_from_slice(b" down");
         }
-        let users = Users::new(alloc);
         let call = hello(alloc)?;
-        let begun = begin_at(alloc, &mut self.disk, &mut self.node, &users, call);
+        let begun = begin_at(alloc, &mut self.disk, &mut self.node, call);
         tell_begun(begun, flying, out)
     }
 

@@ -10,8 +10,12 @@ returns-clause-turns g c = record {
   old = c.in-Up.node;
   new = c.begin-done.new.self;
   was = c.in-Up.is;
-  did = λ plan own is users ended. c.begin-done.ensures.begins plan own is users;
+  did = λ plan own is ended. c.begin-done.ensures.begins plan own is;
   maps = c.begin-done.ensures.follows;
+  beside = c.begin-done.ensures.beside;
   is = c.settle.ensures _ refl;
   works = c.begin-done.ensures.works;
 }
+
+pub begin-done-requires-clause-mail : goal.begin-done-requires-clause-mail
+begin-done-requires-clause-mail g c = c.requires.mail

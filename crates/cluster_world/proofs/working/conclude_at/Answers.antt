@@ -14,6 +14,7 @@ returns-clause-turns g c =
       was = c.in-Up.is;
       did = concludes_so (view_of g.D.Disk.seen g.D.Disk.faults g.D.Disk.clock) c.args.buckets c.in-Up.node c.conclude-done.new.self c.args.disk.now c.conclude-done.result works.mail done;
       maps = done;
+      beside = c.conclude-done.ensures.beside (g.D.Disk.seen c.args.disk.now) works;
       is = c.settle.ensures _ refl;
       works = c.conclude-done.ensures.works (g.D.Disk.seen c.args.disk.now) works;
     }

@@ -21,6 +21,7 @@ returns-clause-turns g c = record {
   did = λ plan own is. any_so (view_of g.D.Disk.seen g.D.Disk.faults g.D.Disk.clock) own plan.nodes c.args.letter.now c.in-Up.node c.args.disk.now c.hear-done.new.self c.hear-done.new.disk c.hear-done.result
       (λ mail. c.hear-done.ensures.hears mail plan own is) c.hear-done.ensures.maps;
   maps = λ plan own is. record { mail = λ of. c.hear-done.ensures.follows of plan own is; maps = c.hear-done.ensures.maps };
+  beside = c.hear-done.ensures.beside;
   is = c.settle.ensures _ refl;
   works = c.hear-done.ensures.works;
 }

@@ -18,6 +18,7 @@ returns-clause-turns g c = record {
   was = c.in-Up.is;
   did = groups_so (view_of g.D.Disk.seen g.D.Disk.faults g.D.Disk.clock) c.args.nodes c.in-Up.node c.args.disk.now c.open_group-done.new.self c.open_group-done.new.disk c.open_group-done.result c.open_group-done.ensures.opens;
   maps = c.open_group-done.ensures.opens;
+  beside = c.open_group-done.ensures.beside;
   is = c.settle.ensures _ refl;
   works = c.open_group-done.ensures.works;
 }

@@ -12,6 +12,7 @@ returns-clause-turns g c = record {
   was = c.in-Up.is;
   did = c.push-done.ensures.pushes;
   maps = λ plan own is. c.push-done.ensures.maps;
+  beside = c.push-done.ensures.beside;
   is = c.settle.ensures _ refl;
   works = c.push-done.ensures.works;
 }

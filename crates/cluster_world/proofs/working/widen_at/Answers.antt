@@ -12,6 +12,7 @@ returns-clause-turns g c = record {
   was = c.in-Up.is;
   did = c.widen-done.ensures.widens;
   maps = c.widen-done.ensures.follows;
+  beside = c.widen-done.ensures.beside;
   is = c.settle.ensures _ refl;
   works = c.widen-done.ensures.works;
 }

@@ -26,7 +26,7 @@ returns-in_err-write_reply-clause-did g c start p line spelled shows clock held 
     let e = err_from_is_err_and c.from_residual-in_err-write_reply.result c.from_residual-in_err-write_reply.ensures.1 in
     let plan = plan_of c.args.cluster.now.world in
     let protocol = protocol_seen c.args.protocol in
-    let a = admits_own plan c.args.cluster.now protocol c.args.node c.in-Ok.found c.in-Ok.ensures.admits in
+    let a = admits_own plan c.args.cluster.now c.args.node c.in-Ok.found c.in-Ok.ensures.admits in
     let same = converse_length c.args.cluster.now.sessions.talkers.items p.sessions shows.talks in
     let wrote = c.in_err-write_reply.ensures.written (_ ∷ []) (all_one _ c.in_ok-open.ensures.line) (c.deref.ensures.value ∙ one_line_said _ _ c.open.new.out.items c.new-out.ensures.items c.in_ok-open.ensures.greets) in
     rw (e.1, e.2) (opened_stopped _ start plan p protocol c.in-Ok.found.0 c.in-Ok.found.1 c.args.cluster.now a shows line _ c.in_err-write_reply.field-0.0 c.args.cluster.now.world refl
@@ -37,7 +37,7 @@ pub returns-clause-did : goal.returns-clause-did
 returns-clause-did g c start p line spelled shows clock held =
     let plan = plan_of c.args.cluster.now.world in
     let protocol = protocol_seen c.args.protocol in
-    let a = admits_own plan c.args.cluster.now protocol c.args.node c.in-Ok.found c.in-Ok.ensures.admits in
+    let a = admits_own plan c.args.cluster.now c.args.node c.in-Ok.found c.in-Ok.ensures.admits in
     let same = converse_length c.args.cluster.now.sessions.talkers.items p.sessions shows.talks in
     let wrote = c.in_ok-write_reply.ensures.written (_ ∷ []) (all_one _ c.in_ok-open.ensures.line) (c.deref.ensures.value ∙ one_line_said _ _ c.open.new.out.items c.new-out.ensures.items c.in_ok-open.ensures.greets) in
     let mid : Cluster g.row.D.Denot = record { world = c.args.cluster.now.world; sessions = c.open.new.self } in

@@ -1,5 +1,5 @@
-use Rattle.joint_world.proofs.Standing.{makes_sees}
+use Rattle.joint_world.proofs.SameStep.{makes_same}
 use Rattle.joint_world.proofs.laws.whole_sees.Goals as goal
 
 pub returns : goal.returns
-returns c = λ plan tells old new step outcome made stands. makes_sees plan tells old stands step outcome new made
+returns c = λ plan tells story old new step outcome made stands. makes_same plan tells story old stands step outcome new made

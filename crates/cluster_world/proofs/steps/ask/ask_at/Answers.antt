@@ -16,6 +16,7 @@ returns c =
       tickets = record {
         mail = subst (λ t. ChangesTickets (asked_out node.mail.shape.confirm t.seq (ticket_standing node.mail t) (node_seen node.mail).tickets) node.mail c.ask.new.self.mail) c.ticket_of.ensures c.ask.ensures.tickets;
         maps = c.ask.ensures.maps;
+        beside = c.ask.ensures.beside;
         works = c.ask.ensures.works;
       };
     }

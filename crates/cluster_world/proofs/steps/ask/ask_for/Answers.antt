@@ -1,4 +1,4 @@
-use Rattle.std.proofs.Common.{◌≡◌, ◌≤◌, ◌∙◌, [], ◌++◌, length, None, Err, refl, ap, subst, sym, arith, if◌then◌else◌}
+use Rattle.std.proofs.Common.{◌≡◌, ◌≤◌, ◌∙◌, [], ◌++◌, length, true, None, Some, Err, refl, ap, subst, sym, arith, if◌then◌else◌}
 use Rattle.std.proofs.lemmas.Result.{err_from_is_err_and}
 use Rattle.node_store.specs.Disks.{view_of}
 use Rattle.node_tickets.specs.Seen.{ask_seen}
@@ -11,10 +11,13 @@ use Rattle.cluster_world.specs.Sure.{IsSurelyDone}
 use Rattle.cluster_world.specs.declared.step.Step.TheVariants as step
 use Rattle.cluster_world.specs.declared.fault.StepFault.TheVariants as fault
 use Rattle.cluster_world.proofs.Same.{none_done}
-use Rattle.cluster_world.proofs.Asked.{asked_did, none_stood, asked_room, asked_ready, asked_settled, up_whole, if_there, same_book, done_in_world, entries_done}
+use Rattle.cluster_world.proofs.Asked.{asked_did, asked_room, asked_ready, asked_settled, up_whole, if_there, same_book, done_in_world, entries_done, asked_some}
 use Rattle.cluster_world.specs.Installs.{installs_in}
 use Rattle.cluster_world.proofs.Installs.{adds_none, if_adds_none}
 use Rattle.cluster_world.proofs.steps.ask.ask_for.Goals as goal
+use Rattle.cluster_world.proofs.Given.{stood_at}
+use Rattle.node_core.specs.Standing.{ticket_standing}
+use Rattle.std.specs.Prelude.{is_some}
 
 pub entries_at-requires : goal.entries_at-requires
 entries_at-requires g c =
@@ -38,25 +41,6 @@ pub ask-requires-clause-up : goal.ask-requires-clause-up
 ask-requires-clause-up g c =
     let here : of_node c.args.nodes.now.lives.items c.args.ticket.now.node ≡ _ = ap (of_node c.args.nodes.now.lives.items) (sym c.node_of.ensures) ∙ c.at.ensures in
     if_there _ c.at.result.now here (up_whole g.D.Disk.seen c.args.ticket.now c.args.nodes.now c.requires.fit c.requires.ready c.at.result.now here)
-
-pub returns-in_default-clause-did : goal.returns-in_default-clause-did
-returns-in_default-clause-did g c = λ flying seconds.
-    none_stood (view_of g.D.Disk.seen g.D.Disk.faults g.D.Disk.clock) c.args.ticket.now c.ask.result c.args.nodes.now c.ask.new.self c.requires.fit c.requires.ready c.ask.ensures
-    flying seconds c.args.book.now c.make_room.new.book c.in_default.is (ap entries_seen c.make_room.ensures.entries)
-
-pub returns-in_default-clause-ready : goal.returns-in_default-clause-ready
-returns-in_default-clause-ready g c =
-    asked_ready (view_of g.D.Disk.seen g.D.Disk.faults g.D.Disk.clock) c.args.ticket.now c.ask.result c.args.nodes.now c.ask.new.self c.requires.fit c.requires.ready c.ask.ensures
-
-pub returns-in_default-clause-settled : goal.returns-in_default-clause-settled
-returns-in_default-clause-settled g c = λ flying seconds.
-    asked_settled (view_of g.D.Disk.seen g.D.Disk.faults g.D.Disk.clock) c.args.ticket.now c.ask.result c.args.nodes.now c.ask.new.self c.requires.fit c.requires.ready c.ask.ensures
-    flying seconds c.args.book.now c.make_room.new.book g.D.Disk.settled
-
-pub returns-in_default-clause-room : goal.returns-in_default-clause-room
-returns-in_default-clause-room g c =
-    asked_room (view_of g.D.Disk.seen g.D.Disk.faults g.D.Disk.clock) c.args.ticket.now c.ask.result c.args.nodes.now c.ask.new.self c.requires.fit c.requires.ready c.ask.ensures
-    c.args.book.now c.make_room.new.book (omega (arith, c.in_ok-make_room.ensures.spare (all_falls_left c.args.nodes.now.lives.items) c.most_falls.ensures.most c.requires.room))
 
 pub returns-clause-did : goal.returns-clause-did
 returns-clause-did g c = λ flying seconds.
@@ -110,3 +94,11 @@ returns-clause-installs g c =
     let items = c.in_ok-entries.entries.items in
     adds_none c.make_room.new.book c.enter.new.book (if confirms (ask_seen c.in-Some.ask) then items else []) c.enter.ensures.entries (if_adds_none (confirms (ask_seen c.in-Some.ask)) items c.in_ok-entries.ensures.installs)
     ∙ ap installs_in c.make_room.ensures.entries
+
+pub unreachable-requires : goal.unreachable-requires
+unreachable-requires g c =
+    let ch = c.ask.ensures in
+    let node = ch.does.0.old in
+    let stands : is_some (ticket_standing node.mail c.args.ticket.now) ≡ true =
+    stood_at c.args.ticket.now (of_node c.args.nodes.now.lives.items c.args.ticket.now.node) node c.requires.mail (ch.was ∙ ap Some ch.does.0.was) in
+    asked_some node.mail.shape.confirm (ticket_standing node.mail c.args.ticket.now) c.ask.result stands ch.does.0.answer c.in_default.is

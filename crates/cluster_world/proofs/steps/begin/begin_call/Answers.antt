@@ -2,12 +2,11 @@ use Rattle.std.proofs.Common.{◌∙◌, refl, sym, arith, ap, nat_le}
 use Rattle.cluster_model.specs.Steps.{letters_end}
 use Rattle.std.proofs.lemmas.Result.{err_from_is_err_and}
 use Rattle.node_store.specs.Disks.{view_of}
-use Rattle.node_core.specs.Beginning.{call_seen}
 use Rattle.cluster_world.specs.Worlds.{state_with}
 use Rattle.cluster_world.specs.declared.step.Step.TheVariants as step
 use Rattle.cluster_world.proofs.Same.{none_done}
 use Rattle.cluster_world.proofs.Asked.{same_book}
-use Rattle.cluster_world.proofs.BeginParts.{rule_of, begin_ready, begin_heard}
+use Rattle.cluster_world.proofs.BeginParts.{begin_ready, begin_heard}
 use Rattle.cluster_world.proofs.BeginEnds.{begin_late, begun_did, concluded_ready, concluded_room, concluded_settled}
 use Rattle.cluster_world.specs.Installs.{installs_in}
 use Rattle.cluster_world.proofs.Installs.{begin_adds_none}
@@ -31,8 +30,8 @@ returns-in_err-reserve-clause-did g c =
     let p = err_from_is_err_and c.from_residual-in_err-reserve.result c.from_residual-in_err-reserve.ensures.1 in
     rw (p.1, p.2) (same_book on _ (step.Begin c.args.node c.args.call) c.args.nodes.now c.args.nodes.now c.args.flying.now c.args.seconds c.args.book.now c.reserve.new.self c.reserve.ensures.entries (none_done on s (step.Begin c.args.node c.args.call)))
 
-pub returns-then-not-can_begin-clause-did : goal.returns-then-not-can_begin-clause-did
-returns-then-not-can_begin-clause-did g c =
+pub returns-then-not-text_is_ended-clause-did : goal.returns-then-not-text_is_ended-clause-did
+returns-then-not-text_is_ended-clause-did g c =
     none_done (view_of g.D.Disk.seen g.D.Disk.faults g.D.Disk.clock) (state_with c.args.nodes.now c.args.flying.now c.args.seconds c.args.book.now) (step.Begin c.args.node c.args.call)
 
 pub conclude-requires-clause-works : goal.conclude-requires-clause-works
@@ -47,7 +46,7 @@ conclude-requires-clause-heard g c =
 pub returns-clause-did : goal.returns-clause-did
 returns-clause-did g c =
     begun_did (view_of g.D.Disk.seen g.D.Disk.faults g.D.Disk.clock) g.D.Disk.settled c.args.node c.args.call c.args.seconds c.args.nodes.now c.begin_in-did.new.nodes c.requires.fit c.requires.ready c.begin_in-did.result c.begin_in-did.ensures.begins
-    c.args.flying.now c.args.book.now (ap (nat_le letters_end) (sym c.sent.ensures) ∙ sym c.is_worn.ensures ∙ c.if-is_worn.false) (rule_of _ c.args.nodes.now c.nodes.view_is (call_seen c.args.call) (c.if-not-can_begin.ensures.rule refl)) c.in_ok-entries.entries.items c.in_ok-entries.ensures.seen c.reserve.new.self c.reserve.ensures.entries
+    c.args.flying.now c.args.book.now (ap (nat_le letters_end) (sym c.sent.ensures) ∙ sym c.is_worn.ensures ∙ c.if-is_worn.false) c.requires.mail c.in_ok-entries.entries.items c.in_ok-entries.ensures.seen c.reserve.new.self c.reserve.ensures.entries
     c.conclude.new.nodes c.conclude.new.flying c.conclude.new.book c.conclude.result c.conclude.ensures.concludes
 
 pub returns-clause-ready : goal.returns-clause-ready

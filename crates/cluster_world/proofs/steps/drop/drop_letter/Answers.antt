@@ -15,7 +15,7 @@ returns-then-leads_too_far-clause-did g c = λ seconds book. worn_dropped (view_
 
 pub returns-clause-did : goal.returns-clause-did
 returns-clause-did g c = λ seconds book. dropped_did (view_of g.D.Disk.seen g.D.Disk.faults g.D.Disk.clock) c.args.nodes.now c.args.flying.now seconds book c.args.number c.in-Some.letter.now
-    (sym c.in-Some.ensures.is) c.note_in.new.nodes c.take.new.self (ap (λ n. has_ticket (Some c.in-Some.letter.now) && nat_le letters_end n) (sym c.sent.ensures) ∙ sym c.if-leads_too_far.ensures) c.note_in.ensures c.take.ensures
+    (sym c.in-Some.ensures.is) c.note_in.new.nodes c.take.new.self c.in-Some.ensures.order (c.requires.mail c.in-Some.letter.now (sym c.in-Some.ensures.is)) (ap (λ n. has_ticket (Some c.in-Some.letter.now) && nat_le letters_end n) (sym c.sent.ensures) ∙ sym c.if-leads_too_far.ensures) c.note_in.ensures c.take.ensures
 
 pub returns-in_default-clause-sure : goal.returns-in_default-clause-sure
 returns-in_default-clause-sure g c = λ seconds book. ap (refusal_to_drop c.args.flying.now.sent) (sym c.in_default.ensures.is)

@@ -14,6 +14,7 @@ returns c =
       tickets = record {
         mail = subst (λ t. ChangesTickets (tickets_without t node.mail) node.mail c.give_up.new.self.mail) c.ticket_of.ensures c.give_up.ensures.tickets;
         maps = c.give_up.ensures.maps;
+        beside = c.give_up.ensures.beside;
         works = c.give_up.ensures.works;
       };
     }

@@ -1,6 +1,8 @@
-use Rattle.std.proofs.Common.{sym, ◌∙◌}
+use Rattle.std.proofs.Common.{◌<◌, ℕ, Option, arith, sym, ◌∙◌, subst}
 use Rattle.std.proofs.lemmas.Result.{err_from_is_err_and}
 use Rattle.cluster_world.proofs.Flowing.{one_more_posted, all_posted, posted_until, posted_then, delivered, none_first}
+use Rattle.cluster_world.specs.Flights.{first_number}
+use Rattle.cluster_world.proofs.Passing.{distance_of, nearer}
 use Rattle.cluster_world.proofs.world.World.flow.Goals as goal
 
 pub returns-in_err-node-clause-flowed : goal.returns-in_err-node-clause-flowed
@@ -21,3 +23,9 @@ loop-letter-preserved g c = record {
 
 pub returns-clause-flowed : goal.returns-clause-flowed
 returns-clause-flowed g c = all_posted _ _ _ c.loop-letter.invariant.posted (none_first _ (sym c.first.ensures.first ∙ c.in_default.is))
+
+pub loop-letter-smaller : goal.loop-letter-smaller
+loop-letter-smaller g c =
+    let first = sym c.first.ensures.first ∙ c.in-Some.is in
+    subst (λ (o : Option ℕ). distance_of (first_number c.step.new.self.flying.flights) < distance_of o) (sym first)
+    (nearer c.in-Some.letter c.step.new.self.flying.flights (omega (arith, rw c.in-Some.is at c.first.type_inv)) (c.in_ok-node.ensures.is.did.passed first))

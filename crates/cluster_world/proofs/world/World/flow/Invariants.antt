@@ -1,8 +1,9 @@
 use Rattle.node_store.specs.Disks.{view_of}
-use Rattle.cluster_world.specs.Flights.{weight_of_flights}
+use Rattle.cluster_world.specs.Flights.{first_number}
 use Rattle.cluster_world.specs.Worlds.{state_of, CanMakeSteps}
 use Rattle.cluster_world.specs.Steps.{AreSettled}
 use Rattle.cluster_world.proofs.Flowing.{WerePosted}
+use Rattle.cluster_world.proofs.Passing.{distance_of}
 use Rattle.cluster_world.proofs.world.World.flow.Given as goal
 
 abbrev pub invariant-loop-letter : goal.invariant-loop-letter
@@ -13,4 +14,4 @@ invariant-loop-letter g l = record {
 }
 
 abbrev pub decreases-loop-letter : goal.decreases-loop-letter
-decreases-loop-letter g l = weight_of_flights l.self.flying.flights
+decreases-loop-letter g l = distance_of (first_number l.self.flying.flights)

@@ -11,13 +11,13 @@ use Rattle.cluster_world.proofs.world.World.make_other.Goals as goal
 
 pub returns-in-Ask-clause-did : goal.returns-in-Ask-clause-did
 returns-in-Ask-clause-did g c =
-    subst (λ s. StepDid (view_of g.D.Disk.seen g.D.Disk.faults g.D.Disk.clock) c.ask_for.result s (state_of c.args.self.now) (state_with c.ask_for.new.nodes c.args.self.now.flying c.args.self.now.seconds c.ask_for.new.book))
-    (sym c.in-Ask.is) (c.ask_for.ensures.did c.args.self.now.flying c.args.self.now.seconds)
+    subst (λ s. StepDid (view_of g.D.Disk.seen g.D.Disk.faults g.D.Disk.clock) c.ask_any.result s (state_of c.args.self.now) (state_with c.ask_any.new.nodes c.args.self.now.flying c.args.self.now.seconds c.ask_any.new.book))
+    (sym c.in-Ask.is) (c.ask_any.ensures.did c.args.self.now.flying c.args.self.now.seconds)
 
 pub returns-in-GiveUp-clause-did : goal.returns-in-GiveUp-clause-did
 returns-in-GiveUp-clause-did g c =
-    subst (λ s. StepDid (view_of g.D.Disk.seen g.D.Disk.faults g.D.Disk.clock) c.give_up_call.result s (state_of c.args.self.now) (state_with c.give_up_call.new.nodes c.args.self.now.flying c.args.self.now.seconds c.args.self.now.book))
-    (sym c.in-GiveUp.is) (c.give_up_call.ensures.did c.args.self.now.seconds c.args.self.now.book)
+    subst (λ s. StepDid (view_of g.D.Disk.seen g.D.Disk.faults g.D.Disk.clock) c.give_up_any.result s (state_of c.args.self.now) (state_with c.give_up_any.new.nodes c.give_up_any.new.flying c.args.self.now.seconds c.args.self.now.book))
+    (sym c.in-GiveUp.is) (c.give_up_any.ensures.did c.args.self.now.seconds c.args.self.now.book)
 
 pub returns-in-Start-clause-did : goal.returns-in-Start-clause-did
 returns-in-Start-clause-did g c =
@@ -26,8 +26,8 @@ returns-in-Start-clause-did g c =
 
 pub returns-in-Drop-clause-did : goal.returns-in-Drop-clause-did
 returns-in-Drop-clause-did g c =
-    subst (λ s. StepDid (view_of g.D.Disk.seen g.D.Disk.faults g.D.Disk.clock) c.drop_letter.result s (state_of c.args.self.now) (state_with c.drop_letter.new.nodes c.drop_letter.new.flying c.args.self.now.seconds c.args.self.now.book))
-    (sym c.in-Drop.is) (c.drop_letter.ensures.did c.args.self.now.seconds c.args.self.now.book)
+    subst (λ s. StepDid (view_of g.D.Disk.seen g.D.Disk.faults g.D.Disk.clock) c.drop_any.result s (state_of c.args.self.now) (state_with c.drop_any.new.nodes c.drop_any.new.flying c.args.self.now.seconds c.args.self.now.book))
+    (sym c.in-Drop.is) (c.drop_any.ensures.did c.args.self.now.seconds c.args.self.now.book)
 
 pub returns-in-Crash-clause-did : goal.returns-in-Crash-clause-did
 returns-in-Crash-clause-did g c =
@@ -41,8 +41,8 @@ returns-in-Lose-clause-did g c =
 
 pub returns-in-Post-clause-did : goal.returns-in-Post-clause-did
 returns-in-Post-clause-did g c =
-    subst (λ s. StepDid (view_of g.D.Disk.seen g.D.Disk.faults g.D.Disk.clock) c.post_letter.result s (state_of c.args.self.now) (state_with c.post_letter.new.nodes c.post_letter.new.flying c.args.self.now.seconds c.post_letter.new.book))
-    (sym c.in-Post.is) (c.post_letter.ensures.did c.args.self.now.seconds)
+    subst (λ s. StepDid (view_of g.D.Disk.seen g.D.Disk.faults g.D.Disk.clock) c.post_any.result s (state_of c.args.self.now) (state_with c.post_any.new.nodes c.post_any.new.flying c.args.self.now.seconds c.post_any.new.book))
+    (sym c.in-Post.is) (c.post_any.ensures.did c.args.self.now.seconds)
 
 pub returns-in-Push-clause-did : goal.returns-in-Push-clause-did
 returns-in-Push-clause-did g c =
@@ -71,15 +71,15 @@ returns-in-Report-clause-did g c =
 
 pub returns-in-Ask-clause-sure : goal.returns-in-Ask-clause-sure
 returns-in-Ask-clause-sure g c =
-    subst (λ s. IsSurelyDone (state_of c.args.self.now) s c.ask_for.result) (sym c.in-Ask.is) (c.ask_for.ensures.sure c.args.self.now.flying c.args.self.now.seconds)
+    subst (λ s. IsSurelyDone (state_of c.args.self.now) s c.ask_any.result) (sym c.in-Ask.is) (c.ask_any.ensures.sure c.args.self.now.flying c.args.self.now.seconds)
 
 pub returns-in-GiveUp-clause-sure : goal.returns-in-GiveUp-clause-sure
 returns-in-GiveUp-clause-sure g c =
-    subst (λ s. IsSurelyDone (state_of c.args.self.now) s c.give_up_call.result) (sym c.in-GiveUp.is) (c.give_up_call.ensures.sure c.args.self.now.seconds c.args.self.now.book)
+    subst (λ s. IsSurelyDone (state_of c.args.self.now) s c.give_up_any.result) (sym c.in-GiveUp.is) (c.give_up_any.ensures.sure c.args.self.now.seconds c.args.self.now.book)
 
 pub returns-in-Drop-clause-sure : goal.returns-in-Drop-clause-sure
 returns-in-Drop-clause-sure g c =
-    subst (λ s. IsSurelyDone (state_of c.args.self.now) s c.drop_letter.result) (sym c.in-Drop.is) (c.drop_letter.ensures.sure c.args.self.now.seconds c.args.self.now.book)
+    subst (λ s. IsSurelyDone (state_of c.args.self.now) s c.drop_any.result) (sym c.in-Drop.is) (c.drop_any.ensures.sure c.args.self.now.seconds c.args.self.now.book)
 
 pub returns-in-Tick-clause-did : goal.returns-in-Tick-clause-did
 returns-in-Tick-clause-did g c =
@@ -93,12 +93,12 @@ returns-in-Tick-clause-settled g c =
 pub returns-in-Ask-clause-installs : goal.returns-in-Ask-clause-installs
 returns-in-Ask-clause-installs g c =
     let flights = c.args.self.now.flying.flights in
-    nobody_added c.args.step.now flights c.args.self.now.nodes.lives.items c.ask_for.new.nodes.lives.items c.args.self.now.book c.ask_for.new.book (ap (λ s. installer s flights) c.in-Ask.is) c.ask_for.ensures.installs
+    nobody_added c.args.step.now flights c.args.self.now.nodes.lives.items c.ask_any.new.nodes.lives.items c.args.self.now.book c.ask_any.new.book (ap (λ s. installer s flights) c.in-Ask.is) c.ask_any.ensures.installs
 
 pub returns-in-GiveUp-clause-installs : goal.returns-in-GiveUp-clause-installs
 returns-in-GiveUp-clause-installs g c =
     let flights = c.args.self.now.flying.flights in
-    nobody_added c.args.step.now flights c.args.self.now.nodes.lives.items c.give_up_call.new.nodes.lives.items c.args.self.now.book c.args.self.now.book (ap (λ s. installer s flights) c.in-GiveUp.is) refl
+    nobody_added c.args.step.now flights c.args.self.now.nodes.lives.items c.give_up_any.new.nodes.lives.items c.args.self.now.book c.args.self.now.book (ap (λ s. installer s flights) c.in-GiveUp.is) refl
 
 pub returns-in-Start-clause-installs : goal.returns-in-Start-clause-installs
 returns-in-Start-clause-installs g c =
@@ -108,7 +108,7 @@ returns-in-Start-clause-installs g c =
 pub returns-in-Drop-clause-installs : goal.returns-in-Drop-clause-installs
 returns-in-Drop-clause-installs g c =
     let flights = c.args.self.now.flying.flights in
-    nobody_added c.args.step.now flights c.args.self.now.nodes.lives.items c.drop_letter.new.nodes.lives.items c.args.self.now.book c.args.self.now.book (ap (λ s. installer s flights) c.in-Drop.is) refl
+    nobody_added c.args.step.now flights c.args.self.now.nodes.lives.items c.drop_any.new.nodes.lives.items c.args.self.now.book c.args.self.now.book (ap (λ s. installer s flights) c.in-Drop.is) refl
 
 pub returns-in-Report-clause-installs : goal.returns-in-Report-clause-installs
 returns-in-Report-clause-installs g c =
@@ -147,7 +147,7 @@ returns-in-Tick-clause-installs g c =
 
 pub returns-in-Post-clause-installs : goal.returns-in-Post-clause-installs
 returns-in-Post-clause-installs g c =
-    subst (λ s. AddsInstalls s c.args.self.now.flying.flights c.args.self.now.nodes.lives.items c.args.self.now.book c.post_letter.new.nodes.lives.items c.post_letter.new.book) (sym c.in-Post.is) c.post_letter.ensures.installs
+    subst (λ s. AddsInstalls s c.args.self.now.flying.flights c.args.self.now.nodes.lives.items c.args.self.now.book c.post_any.new.nodes.lives.items c.post_any.new.book) (sym c.in-Post.is) c.post_any.ensures.installs
 
 pub returns-in-Conclude-clause-installs : goal.returns-in-Conclude-clause-installs
 returns-in-Conclude-clause-installs g c =

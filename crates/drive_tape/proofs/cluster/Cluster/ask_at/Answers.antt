@@ -1,7 +1,7 @@
 use Rattle.std.proofs.Common.{◌+◌, Some, refl, sym, ap, ◌∙◌, arith}
 use Rattle.std.proofs.lemmas.Result.{err_from_is_err_and}
 use Rattle.drive_tape.proofs.Works.{work_none}
-use Rattle.drive_tape.proofs.Clusters.{went_on, stopped_on, stopped_plan, went_plan, at_plan}
+use Rattle.drive_tape.proofs.Clusters.{went_on, goes_further, stopped_on, stops_further, stopped_plan, went_plan, at_plan}
 use Rattle.drive_tape.proofs.Asking.{asks_again, asks_past, none_of}
 use Rattle.drive_tape.proofs.cluster.Cluster.ask_at.Goals as goal
 
@@ -27,12 +27,12 @@ pub loop-open_call-preserved-in-Continue-branch-3 : goal.loop-open_call-preserve
 loop-open_call-preserved-in-Continue-branch-3 g c =
     let loop = c.loop-open_call.invariant in
     record {
-      asked = λ start p shows held asks.
-          let so = loop.asked start p shows held asks in
-          let heard = rw c.in-On.is at c.in_ok-ask.ensures.asked start so.q (at_plan _ start _ _ _ so.q (sym loop.plan) so.shows) so.held_is so.so_is in
-          let rests = c.in_ok-hear-in-On.ensures.heard start heard.q (c.args.place + 1) (at_plan _ start _ _ _ heard.q (sym c.in_ok-ask.ensures.plan) heard.shows) heard.held_is heard.so_is in
-          went_on _ start _ p so.q _ _ _ so.work (went_plan _ start _ _ _ _ _ _ loop.plan
-          (asks_again _ start _ so.q c.args.place _ _ (went_on _ start _ so.q heard.q _ _ _ heard.work (went_plan _ start _ _ _ _ _ _ c.in_ok-ask.ensures.plan rests))));
+      asked = λ start p shows held asks. goes_further _ start _ p _ _ _ _ _ _ (loop.asked start p shows held asks)
+          (λ q at held_is so_is. went_plan _ start _ _ q _ _ _ loop.plan
+          (asks_again _ start _ q c.args.place _ _
+          (goes_further _ start _ q _ _ _ _ _ _ (rw c.in-On.is at c.in_ok-ask.ensures.asked start q (at_plan _ start _ _ _ q (sym loop.plan) at) held_is so_is)
+          (λ r there held_so rests. went_plan _ start _ _ r _ _ _ c.in_ok-ask.ensures.plan
+          (c.in_ok-hear-in-On.ensures.heard start r (c.args.place + 1) (at_plan _ start _ _ _ r (sym c.in_ok-ask.ensures.plan) there) held_so rests)))));
       ready = c.in_ok-hear-in-On.ensures.ready;
       plan = c.in_ok-hear-in-On.ensures.plan ∙ c.in_ok-ask.ensures.plan ∙ loop.plan;
       places = c.in_ok-hear-in-On.ensures.length ∙ c.in_ok-ask.ensures.length ∙ loop.places;
@@ -44,11 +44,11 @@ pub returns-in_err-hear-in-On-clause-asked : goal.returns-in_err-hear-in-On-clau
 returns-in_err-hear-in-On-clause-asked g c start p shows held asks =
     let e = err_from_is_err_and c.from_residual-in_err-hear-in-On.result c.from_residual-in_err-hear-in-On.ensures.1 in
     let loop = c.loop-open_call.invariant in
-    let so = loop.asked start p shows held asks in
-    let heard = rw c.in-On.is at c.in_ok-ask.ensures.asked start so.q (at_plan _ start _ _ _ so.q (sym loop.plan) so.shows) so.held_is so.so_is in
-    let more = c.in_err-hear-in-On.ensures.heard start heard.q (c.args.place + 1) (at_plan _ start _ _ _ heard.q (sym c.in_ok-ask.ensures.plan) heard.shows) heard.held_is heard.so_is in
-    rw (e.1, e.2) (stopped_on _ start _ p so.q _ _ _ so.work (stopped_plan _ start _ _ _ _ _ _ loop.plan
-    (stopped_on _ start _ so.q heard.q _ _ _ heard.work (stopped_plan _ start _ _ _ _ _ _ c.in_ok-ask.ensures.plan more))))
+    rw (e.1, e.2) (stops_further _ start _ p _ _ _ _ _ _ (loop.asked start p shows held asks)
+    (λ q at held_is so_is. stopped_plan _ start _ _ q _ _ _ loop.plan
+    (stops_further _ start _ q _ _ _ _ _ _ (rw c.in-On.is at c.in_ok-ask.ensures.asked start q (at_plan _ start _ _ _ q (sym loop.plan) at) held_is so_is)
+    (λ r there held_so rests. stopped_plan _ start _ _ r _ _ _ c.in_ok-ask.ensures.plan
+    (c.in_err-hear-in-On.ensures.heard start r (c.args.place + 1) (at_plan _ start _ _ _ r (sym c.in_ok-ask.ensures.plan) there) held_so rests)))))
 
 pub loop-open_call-preserved : goal.loop-open_call-preserved
 loop-open_call-preserved g c =

@@ -4,7 +4,7 @@ use Rattle.std.specs.Cmp.Lexicographic.{slice_cmp, nat_list_cmp_total}
 use Rattle.std.specs.FinMap.{slice_cmp-IsAntisymmetric, nat_cmp-IsAntisymmetric}
 use Rattle.std.specs.FinMap as map
 use Rattle.mail_base.proofs.Maps.{one_unset}
-use Rattle.drop_lock.specs.Locks.{is_held_by}
+use Rattle.object_model.specs.Locks.{is_held_by}
 use Rattle.drop_lock.proofs.locks.Locks.release.Goals as goal
 
 pub returns-then-eq : goal.returns-then-eq

@@ -1,4 +1,4 @@
-use Rattle.std.proofs.Common.{◌≡◌, ◌≤◌, ℕ, List, None, refl, sym, ap, subst, ◌∙◌, arith}
+use Rattle.std.proofs.Common.{◌≡◌, ℕ, List, None, refl, sym, ap, subst, ◌∙◌, arith}
 use Rattle.std.specs.FinMap as fin
 use Rattle.std.proofs.lemmas.Result.{err_from_is_err_and}
 use Rattle.object_model.specs.Letters.{Letter}
@@ -13,10 +13,9 @@ use Rattle.node_store.specs.Disks.{view_of}
 use Rattle.node_store.specs.Changes.{acked_by}
 use Rattle.node_core.specs.Nodes.{node_seen}
 use Rattle.node_core.specs.Spelling.{AllCanBeTaken}
-use Rattle.node_core.specs.Weights.{weight_of_all}
 use Rattle.node_core.proofs.Doing.{did_by, stopped_by, all_stopped}
 use Rattle.node_core.proofs.Acking.{out_of, ack_out, acked_fit}
-use Rattle.node_core.proofs.Sending.{none_fit, letters_fit, retired_light}
+use Rattle.node_core.proofs.Sending.{none_fit, letters_fit}
 use Rattle.node_core.proofs.node.Node.hear_ack.Goals as goal
 
 pub returns-in_err-acknowledged-clause-wrote : goal.returns-in_err-acknowledged-clause-wrote
@@ -92,10 +91,3 @@ returns-in-Other-clause-wrote g c =
     (λ records k. ack_out old.store.own old.shape.nodes (node_seen old) records key state c.args.from (fin.get old.store.log key)
     ∙ ap (out_of old.store.own old.shape.nodes (node_seen old) key state) none ∙ sym c.no_letters-in-Other.ensures)
     (record { boot = refl; shape = refl; tickets = λ own boot confirm is. is }) c.requires.works.whole (subst AllCanBeTaken (sym c.no_letters-in-Other.ensures) none_fit)
-
-pub returns-in_ok-retirement-in-Emptied-clause-light : goal.returns-in_ok-retirement-in-Emptied-clause-light
-returns-in_ok-retirement-in-Emptied-clause-light g c =
-    let old = c.args.self.now in
-    let own = c.acknowledged.new.self.own in
-    subst (λ (l : List Letter). weight_of_all l ≤ 16) (sym c.in_ok-retirement-in-Emptied.ensures)
-    (retired_light own (epoch_of (node_seen old)) None c.args.state.now.targets old.shape.nodes (key_seen c.args.key.now) c.args.state.now c.requires.works.whole.shape.few)

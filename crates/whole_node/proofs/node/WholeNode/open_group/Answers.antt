@@ -10,7 +10,8 @@ use Rattle.node_core.specs.Promising.{promising}
 use Rattle.whole_node.specs.Hearing.{appends_promise}
 use Rattle.whole_node.specs.declared.grouping.Grouped.{Grouped}
 use Rattle.whole_node.specs.declared.node.WholeNode.{WholeNode}
-use Rattle.whole_node.proofs.Opened.{next_is, fresh_is, opening_stops, opened_so, opened_works}
+use Rattle.whole_node.proofs.Beside.{idle_beside}
+use Rattle.whole_node.proofs.Opened.{next_is, fresh_is, opening_stops, opened_so, opened_works, opened_beside}
 use Rattle.whole_node.proofs.Outlasted.{failed_works}
 use Rattle.whole_node.proofs.node.WholeNode.open_group.Goals as goal
 
@@ -19,14 +20,14 @@ returns-in_err-promise-clause-works g c =
     let on = view_of g.D.Disk.seen g.D.Disk.faults g.D.Disk.clock in
     let p = err_from_is_err_and c.from_residual.result c.from_residual.ensures.1 in
     let old = c.args.self.now in
-    rw (p.1, p.2) (λ up. failed_works on old c.args.disk.now c.requires.works Grouped (promising c.next_epoch-epoch.result) ⊤ (record { mail = c.promise.new.self; maps = old.maps }) c.promise.new.disk
-    c.in_err-promise.field-0.0 refl c.in_err-promise.ensures.promises up)
+    rw (p.1, p.2) (λ up. failed_works on old c.args.disk.now c.requires.works Grouped (promising c.next_epoch-epoch.result) ⊤ (record old { mail = c.promise.new.self }) c.promise.new.disk
+    c.in_err-promise.field-0.0 refl (record { reads = refl; locks = refl }) c.in_err-promise.ensures.promises up)
 
 pub returns-in-Ok-clause-opens : goal.returns-in-Ok-clause-opens
 returns-in-Ok-clause-opens g c =
     let on = view_of g.D.Disk.seen g.D.Disk.faults g.D.Disk.clock in
     let old = c.args.self.now in
-    let new : WholeNode = record { mail = c.promise.new.self; maps = c.start_group.new.self } in
+    let new : WholeNode = record old { mail = c.promise.new.self; maps = c.start_group.new.self } in
     let epoch = c.next_epoch-epoch.ensures ∙ next_is on c.args.nodes old c.args.disk.now c.requires.works in
     let d = subst (λ (e : EpochId). NodeDid on (appends_promise (Some e) []) old.mail c.args.disk.now c.promise.new.self c.promise.new.disk []) epoch c.in_ok-promise.ensures.promises in
     opened_so on c.args.nodes old c.args.disk.now c.requires.works new c.promise.new.disk d c.in-Ok.letters c.in-Ok.ensures
@@ -37,16 +38,30 @@ pub returns-in-Ok-clause-works : goal.returns-in-Ok-clause-works
 returns-in-Ok-clause-works g c =
     let on = view_of g.D.Disk.seen g.D.Disk.faults g.D.Disk.clock in
     let old = c.args.self.now in
-    let new : WholeNode = record { mail = c.promise.new.self; maps = c.start_group.new.self } in
+    let new : WholeNode = record old { mail = c.promise.new.self; maps = c.start_group.new.self } in
     let epoch = c.next_epoch-epoch.ensures ∙ next_is on c.args.nodes old c.args.disk.now c.requires.works in
     let d = subst (λ (e : EpochId). NodeDid on (appends_promise (Some e) []) old.mail c.args.disk.now c.promise.new.self c.promise.new.disk []) epoch c.in_ok-promise.ensures.promises in
-    λ up. opened_works on c.args.nodes old c.args.disk.now c.requires.works new c.promise.new.disk d c.in-Ok.letters c.in-Ok.ensures
+    λ up. opened_works on c.args.nodes old c.args.disk.now c.requires.works new c.promise.new.disk d c.in-Ok.letters c.in-Ok.ensures refl
+
+pub returns-in-Ok-clause-beside : goal.returns-in-Ok-clause-beside
+returns-in-Ok-clause-beside g c =
+    let on = view_of g.D.Disk.seen g.D.Disk.faults g.D.Disk.clock in
+    let old = c.args.self.now in
+    let new : WholeNode = record old { mail = c.promise.new.self; maps = c.start_group.new.self } in
+    let epoch = c.next_epoch-epoch.ensures ∙ next_is on c.args.nodes old c.args.disk.now c.requires.works in
+    let d = subst (λ (e : EpochId). NodeDid on (appends_promise (Some e) []) old.mail c.args.disk.now c.promise.new.self c.promise.new.disk []) epoch c.in_ok-promise.ensures.promises in
+    λ up. opened_beside on c.args.nodes old c.args.disk.now c.requires.works new c.promise.new.disk d c.in-Ok.letters c.in-Ok.ensures (record { reads = refl; locks = refl })
+
+pub returns-in_err-promise-clause-beside : goal.returns-in_err-promise-clause-beside
+returns-in_err-promise-clause-beside g c =
+    let old = c.args.self.now in
+    λ up. idle_beside old (record old { mail = c.promise.new.self }) refl (record { reads = refl; locks = refl })
 
 pub returns-in-Err-clause-opens : goal.returns-in-Err-clause-opens
 returns-in-Err-clause-opens g c =
     let on = view_of g.D.Disk.seen g.D.Disk.faults g.D.Disk.clock in
     let old = c.args.self.now in
-    let new : WholeNode = record { mail = c.promise.new.self; maps = c.start_group.new.self } in
+    let new : WholeNode = record old { mail = c.promise.new.self; maps = c.start_group.new.self } in
     let epoch = c.next_epoch-epoch.ensures ∙ next_is on c.args.nodes old c.args.disk.now c.requires.works in
     let d = subst (λ (e : EpochId). NodeDid on (appends_promise (Some e) []) old.mail c.args.disk.now c.promise.new.self c.promise.new.disk []) epoch c.in_ok-promise.ensures.promises in
     opening_stops on c.args.nodes old c.args.disk.now c.requires.works new c.promise.new.disk d

@@ -4,8 +4,9 @@ use Rattle.maps_model.specs.Rules.{started}
 use Rattle.node_store.specs.Disks.{view_of}
 use Rattle.node_core.specs.Nodes.{node_seen}
 use Rattle.node_maps.specs.Nodes.{node_of}
-use Rattle.whole_node.specs.Nodes.{HasMaps}
+use Rattle.whole_node.specs.Nodes.{AreReadsOf, HasMaps, HasNoReads}
 use Rattle.whole_node.specs.declared.node.WholeNode.{WholeNode}
+use Rattle.whole_node.proofs.Beside.{started_beside}
 use Rattle.whole_node.proofs.Found.{ok_at}
 use Rattle.whole_node.proofs.Restarted.{whole_started_of, start_short}
 use Rattle.whole_node.proofs.node.WholeNode.start.Goals as goal
@@ -28,6 +29,11 @@ returns-in-Ok-clause-starts g c =
     (ok_at (λ (node : WholeNode). (image : Disk) → image.boot + 1 ≡ (node_seen mail).boot → image.promise ≡ c.in_ok-mail.promise → node_of node.maps ≡ started image) c.with_maps.result c.in-Ok.node c.in-Ok.is c.with_maps.ensures.starts)
     c.in_ok-mail.ensures.starts
     (ok_at HasMaps c.with_maps.result c.in-Ok.node c.in-Ok.is c.with_maps.ensures.has_maps)
+    (ok_at (λ (node : WholeNode). AreReadsOf node.mail node.reads) c.with_maps.result c.in-Ok.node c.in-Ok.is c.with_maps.ensures.reads)
+    (ok_at HasNoReads c.with_maps.result c.in-Ok.node c.in-Ok.is c.with_maps.ensures.blank)
+
+pub returns-in-Ok-clause-beside : goal.returns-in-Ok-clause-beside
+returns-in-Ok-clause-beside g c = started_beside c.in-Ok.node (ok_at HasNoReads c.with_maps.result c.in-Ok.node c.in-Ok.is c.with_maps.ensures.blank)
 
 pub returns-in-Err-clause-starts : goal.returns-in-Err-clause-starts
 returns-in-Err-clause-starts g c =
