@@ -1,0 +1,2 @@
+pub mod FreshTape
+pub mod Members
