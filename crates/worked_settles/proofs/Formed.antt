@@ -14,6 +14,8 @@ use Rattle.session_model.specs.Acts.Act.{Opens, Does, Faults, StillWaits, Leaves
 use Rattle.fresh_sessions.specs.Acts.{FormsNone, ShowsMembers, nodes_to}
 use Rattle.fresh_sessions.specs.Acts.ShowsMembers.{AtOpening, ByRegroup}
 use Rattle.worked_settles.specs.Members.{MembersAreOne}
+use Rattle.std.proofs.lemmas.List.Folds.{list_all-append}
+use Rattle.std.proofs.lemmas.List.Concat.{flat_map-append}
 
 -- whether an order forms no epoch
 abbrev pub keeps_epoch : ClusterOrder → Bool
@@ -95,3 +97,11 @@ members_are_one plan acts members others (ByRegroup front back node epoch are no
     absurd (no_regroup front back node (HasFormed epoch members) (subst (All FormsNone) are none_too))
 members_are_one plan acts members others (ByRegroup front back node epoch are none) (ByRegroup front_too back_too node_too epoch_too are_too none_too) =
     last_regroup front front_too back back_too node node_too epoch epoch_too members others (sym are ∙ are_too) none none_too
+
+-- where acts form none, those before a line form none
+pub quiet_front : (acts front since : List (List Act)) (line : List Act) → acts ≡ front ++ line ∷ since → list_all is_quiet (flat_map (λ a. a) acts) ≡ true → All FormsNone (flat_map (λ a. a) front)
+quiet_front acts front since line split is =
+    let both : (list_all is_quiet (flat_map (λ a. a) front) && list_all is_quiet (flat_map (λ a. a) (line ∷ since))) ≡ true =
+    sym (list_all-append is_quiet (flat_map (λ a. a) front) (flat_map (λ a. a) (line ∷ since)))
+    ∙ ap (list_all is_quiet) (sym (flat_map-append (λ a. a) front (line ∷ since))) ∙ ap (λ (l : List (List Act)). list_all is_quiet (flat_map (λ a. a) l)) (sym split) ∙ is in
+    none_formed (flat_map (λ a. a) front) (and_parts (list_all is_quiet (flat_map (λ a. a) front)) (list_all is_quiet (flat_map (λ a. a) (line ∷ since))) both).0

@@ -5,3 +5,7 @@ pub mod ReaderRun
 pub mod Formed
 pub mod Shown
 pub mod FreshEnd
+pub mod Nodes
+pub mod Standing
+pub mod FreshPromise
+pub mod FreshOwes
