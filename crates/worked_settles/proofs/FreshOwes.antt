@@ -105,10 +105,10 @@ no_map members user told ends =
     cc
 
 -- one digit
-one : decimal 1 ≡ codes "1"
+pub one : decimal 1 ≡ codes "1"
 one = decimal_digit 1 (omega arith)
 
-two : decimal 2 ≡ codes "2"
+pub two : decimal 2 ≡ codes "2"
 two = decimal_digit 2 (omega arith)
 
 -- the lines of the reply, where digits are spelt so

@@ -44,10 +44,10 @@ use Rattle.worked_settles.proofs.Messages.{alone, message_outputs, waits_after, 
 use Rattle.fresh_sessions.specs.Kept.{IsRun}
 
 -- what session 1 was fed, and its exchanges, before the first message, behind it, and behind the second
-abbrev fed_0 : List ℕ
+abbrev pub fed_0 : List ℕ
 fed_0 = sent_line (codes "HELO c.example")
 
-abbrev had_0 : List Exchange
+abbrev pub had_0 : List Exchange
 had_0 = at_once (codes "HELO c.example") (helo_text 1) ∷ []
 
 abbrev fed_1 : List ℕ
@@ -63,11 +63,11 @@ abbrev had_2 : List Exchange
 had_2 = had_1 ++ message_talk (Stored (nth_id 2)) stored_text
 
 -- it hears
-abbrev hearing : List ℕ → List Exchange → Session
+abbrev pub hearing : List ℕ → List Exchange → Session
 hearing octets whole = record { protocol = Smtp; node = 1; octets = octets; whole = whole; others = []; standing = Hearing (Mailing greeted); rest = [] }
 
 -- the exchanges of a message before its text
-abbrev before_text : List Exchange
+abbrev pub before_text : List Exchange
 before_text =
     at_once (codes "MAIL FROM:<bob@b.example>") (codes "250 sender ok") ∷ at_once (codes "RCPT TO:<alice>") (codes "250 recipient ok")
     ∷ at_once (codes "DATA") (codes "354 end with a line that is a single period") ∷ []

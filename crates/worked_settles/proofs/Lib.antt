@@ -9,3 +9,5 @@ pub mod Nodes
 pub mod Standing
 pub mod FreshPromise
 pub mod FreshOwes
+pub mod MapsRun
+pub mod MapsEnd

@@ -1,2 +1,3 @@
 pub mod FreshTape
 pub mod Members
+pub mod MapsTape
