@@ -11,3 +11,7 @@ pub mod FreshPromise
 pub mod FreshOwes
 pub mod MapsRun
 pub mod MapsEnd
+pub mod Calm
+pub mod Behind
+pub mod Settled
+pub mod Ended
