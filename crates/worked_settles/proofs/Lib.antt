@@ -15,3 +15,6 @@ pub mod Calm
 pub mod Behind
 pub mod Settled
 pub mod Ended
+pub mod Whole
+pub mod FreshBack
+pub mod WrongListings

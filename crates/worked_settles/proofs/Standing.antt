@@ -43,13 +43,13 @@ held_either id stamp n on = by_node first_records second_records third_records (
     (λ holds. ⊎_elim (λ e. inr e) (λ none. absurd none) (held_is_filed id holds.octets third_records holds.held))
 
 -- with its own stamp
-first_stamp : (stamp : Stamp) (n : ℕ) → OnDisk fresh_disks n (HoldsCopy alice (nth_id 1) stamp) → nth_stamp 1 ≡ stamp
+pub first_stamp : (stamp : Stamp) (n : ℕ) → OnDisk fresh_disks n (HoldsCopy alice (nth_id 1) stamp) → nth_stamp 1 ≡ stamp
 first_stamp stamp n on = by_node first_records second_records third_records (HoldsCopy alice (nth_id 1) stamp) (nth_stamp 1 ≡ stamp) n on
     (λ holds. cc (held_stamp alice (nth_id 1) stamp first_records holds))
     (λ holds. cc (held_stamp alice (nth_id 1) stamp second_records holds))
     (λ holds. absurd (none-some stamp (held_stamp alice (nth_id 1) stamp third_records holds)))
 
-second_stamp : (stamp : Stamp) (n : ℕ) → OnDisk fresh_disks n (HoldsCopy alice (nth_id 2) stamp) → nth_stamp 2 ≡ stamp
+pub second_stamp : (stamp : Stamp) (n : ℕ) → OnDisk fresh_disks n (HoldsCopy alice (nth_id 2) stamp) → nth_stamp 2 ≡ stamp
 second_stamp stamp n on = by_node first_records second_records third_records (HoldsCopy alice (nth_id 2) stamp) (nth_stamp 2 ≡ stamp) n on
     (λ holds. absurd (none-some stamp (held_stamp alice (nth_id 2) stamp first_records holds)))
     (λ holds. cc (held_stamp alice (nth_id 2) stamp second_records holds))

@@ -1,3 +1,4 @@
 pub mod FreshTape
 pub mod Members
 pub mod MapsTape
+pub mod WrongListings
