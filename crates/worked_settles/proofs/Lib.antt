@@ -18,3 +18,5 @@ pub mod Ended
 pub mod Whole
 pub mod FreshBack
 pub mod WrongListings
+pub mod MapsBack
+pub mod WrongMaps

@@ -70,10 +70,10 @@ letters : (been : List Act) → AreHandled worked_plan been (waits_after fed_0 h
 letters been = (waits_after fed_0 had_0 ∷ [], first_letter _, (hearing fed_1 had_1 ∷ [], last_letter _, (storer ∷ [], quit _, refl)))
 
 -- what is written before the settle
-abbrev stored_outputs : List (List (List Entry))
+abbrev pub stored_outputs : List (List (List Entry))
 stored_outputs = ((Said 1 (greeting_text 1) ∷ []) ∷ []) ∷ ([] ∷ (Said 1 (helo_text 1) ∷ []) ∷ []) ∷ message_outputs ++ letter_outputs
 
-stored_run : AreHandled worked_plan [] [] stored_lines stored_acts stored_outputs (storer ∷ [])
+pub stored_run : AreHandled worked_plan [] [] stored_lines stored_acts stored_outputs (storer ∷ [])
 stored_run = (
   at_open ∷ [],
   opens,

@@ -2,3 +2,4 @@ pub mod FreshTape
 pub mod Members
 pub mod MapsTape
 pub mod WrongListings
+pub mod WrongMaps

@@ -1,4 +1,3 @@
-use Rattle.worked_settles.proofs.WrongListings.{order_is_refused}
 use Rattle.worked_settles.proofs.MapsEnd.{maps_tape_is_met}
 use Rattle.worked_settles.proofs.laws.maps_tape_is_met.Goals as goal
 
