@@ -3,3 +3,6 @@ pub mod Resting
 pub mod Steps
 pub mod Shown
 pub mod Named
+pub mod Epochs
+pub mod Readers
+pub mod Beginning

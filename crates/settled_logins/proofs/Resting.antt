@@ -150,13 +150,13 @@ rests_follow old new same follow = both mail_rest rest old.slots new.slots (sym 
     by k a b p q Lost ea Lost eb logs disks = rest_as b Lost eb ∙ (λ i. (None, disks i)) ∙ sym (rest_as a Lost ea)
 
 -- who was up is, with its maps and its log
-record UpSo (slot : Slot) (m : maps.Node) (log : Log) (disk : List Record) : Type 0 where
-  node : Node
-  is : slot ≡ slot_up node disk
-  maps_is : node.whole.maps ≡ m
-  log_is : node.whole.mail.log ≡ log
+pub record UpSo (slot : Slot) (m : maps.Node) (log : Log) (disk : List Record) : Type 0 where
+  pub node : Node
+  pub is : slot ≡ slot_up node disk
+  pub maps_is : node.whole.maps ≡ m
+  pub log_is : node.whole.mail.log ≡ log
 
-up_so : (slot : Slot) (m : maps.Node) (log : Log) (disk : List Record) → rest slot ≡ (Some (m, log), disk) → UpSo slot m log disk
+pub up_so : (slot : Slot) (m : maps.Node) (log : Log) (disk : List Record) → rest slot ≡ (Some (m, log), disk) → UpSo slot m log disk
 up_so slot m log disk e = by slot.life refl
   where
     disks : slot.disk ≡ disk
@@ -232,3 +232,10 @@ module _ (tells : Bool) where
       let one = read_back tells old.slots n slot at in
       let now = rests_at old new r n one.0 one.1 in
       (read_slot tells now.0, read_here tells new.slots n now.0 now.1, subst (λ (s : login.Slot). IsStillSlot s (read_slot tells now.0)) one.2 (still_of one.0.life now.0.life one.0.disk now.0.disk now.2))
+
+  -- and so the other way
+  pub rests_back : (old new : World) → Rests old new → (n : ℕ) (before now : login.Slot) → login.slot_at (map (read_slot tells) old.slots) n ≡ Some before → login.slot_at (map (read_slot tells) new.slots) n ≡ Some now
+      → IsStillSlot now before
+  rests_back old new r n before now at there =
+      let back = rests_seen new old (sym r) n now there in
+      subst (IsStillSlot now) (same_some (login.slot_at (map (read_slot tells) old.slots) n) back.0 before back.1 at) back.2
