@@ -6,3 +6,7 @@ pub mod Named
 pub mod Epochs
 pub mod Readers
 pub mod Beginning
+pub mod Listed
+pub mod Maps
+pub mod Parts
+pub mod Chain

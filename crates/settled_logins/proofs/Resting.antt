@@ -56,7 +56,7 @@ module _ {X Y : Type 0} (f : X → Y) where
   set_view (x ∷ xs) zero a b here same = ap (λ (z : Y). z ∷ map f xs) (same ∙ ap f (sym (same_some (Some x) x a refl here)))
   set_view (x ∷ xs) (suc k) a b here same = ap (λ (l : List Y). f x ∷ l) (set_view xs k a b here same)
 
-fuse : {X Y Z : Type 0} (f : X → Y) (g : Y → Z) (xs : List X) → map g (map f xs) ≡ map (λ x. g (f x)) xs
+pub fuse : {X Y Z : Type 0} (f : X → Y) (g : Y → Z) (xs : List X) → map g (map f xs) ≡ map (λ x. g (f x)) xs
 fuse f g [] = refl
 fuse {Z = Z} f g (x ∷ xs) = ap (λ (l : List Z). g (f x) ∷ l) (fuse f g xs)
 
