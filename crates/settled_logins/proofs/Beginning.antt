@@ -1,8 +1,7 @@
 -- A login that begins in a settled epoch at a member is fresh, and steps of readers leave it so.
-use Rattle.std.proofs.Common.{◌≡◌, inl, inr, ⊎_elim, ℕ, arith, Bool, List, map, Some, refl, sym, ap, ◌∙◌, subst}
+use Rattle.std.proofs.Common.{◌≡◌, ⊎_elim, ℕ, arith, Bool, List, map, refl, sym, ap, ◌∙◌, subst}
 use Rattle.mail_model.specs.Plan.{Plan, Proof}
 use Rattle.mail_model.specs.Record.{Record}
-use Rattle.object_model.specs.Lists.{Among}
 use Rattle.object_model.specs.Letters.{Number, Membership}
 use Rattle.object_model.proofs.Lists.{same_some}
 use Rattle.cluster_model.specs.Reads.{IsListedCopy}
@@ -19,7 +18,7 @@ use Rattle.login_model.specs.Cluster as login
 use Rattle.login_model.specs.Cluster.{Slot}
 use Rattle.login_model.specs.Readings.Subject.{OfUser}
 use Rattle.login_model.specs.Facts.{DrawnAt, IsDrawn}
-use Rattle.login_model.specs.Listing.{SameFor, IsStillSlot, AreStill, IsFreshLogin}
+use Rattle.login_model.specs.Listing.{SameFor, IsStillSlot}
 use Rattle.login_model.proofs.Still.{since_fresh}
 use Rattle.joint_model.specs.Joint.{Node, slot_up, read_node, read_slot}
 use Rattle.joint_model.proofs.Kept.{read_here}

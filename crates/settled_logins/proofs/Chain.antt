@@ -1,7 +1,7 @@
 -- A run of steps of readers behind a settled epoch, among them a login that is answered.
 use Rattle.std.proofs.Common.{◌≡◌, ◌≤◌, ℕ, Bool, List, [], ◌∷◌, ◌++◌, append_assoc, map, refl, sym, ◌∙◌, subst, All}
 use Rattle.std.proofs.lemmas.List.Elements.{All-head, All-tail}
-use Rattle.mail_model.specs.Plan.{Plan}
+use Rattle.mail_model.specs.Plan.{Plan, Proof}
 use Rattle.mail_model.specs.Record.{Record}
 use Rattle.object_model.specs.Lists.{Among}
 use Rattle.object_model.specs.Letters.{Number, Membership}
@@ -77,29 +77,45 @@ module _ (plan : Plan) (tells : Bool) where
         began = stays_settled plan tells s.stage.story a b made s.stage.stands g s.stage.readers makes reader number user s.began;
       }
 
-      from_stage : (steps : List MadeStep) (new : World) → Stage start → MakesAll plan tells start steps new → All IsReaderStep steps → IsListed nodes user items steps
-          → AreStanding (disks_of new) nodes user (map (λ (item : ListedCopy). item.id) items)
+      -- the steps behind the answer
+      run_all : (steps : List MadeStep) (a b : World) → MakesAll plan tells a steps b → All IsReaderStep steps → Stage a → Stage b
+      run_all [] a b is readers s = subst Stage (sym is) s
+      run_all (made ∷ steps) a b (mid, first, others) readers s = run_all steps mid b others (All-tail IsReaderStep made steps readers) (stage_on a mid made first (All-head IsReaderStep made steps readers) s)
+
+      abbrev Shown : World → Type 0
+      Shown w = AreStanding (disks_of w) nodes user (map (λ (item : ListedCopy). item.id) items)
+
+      from_ask : (number login_ : Number) (manager asked : ℕ) (last : List MadeStep) (new : World) → Ran (Began number) (listing_told number login_ manager asked items ∷ last) new → Shown new
+      from_ask number login_ manager asked last new r =
+          let ask = listing_told number login_ manager asked items in
+          let s = r.state in
+          let after = stage_on r.mid r.makes.0 ask r.makes.1 (All-head IsReaderStep ask last r.readers) s.stage in
+          let done = run_all last r.makes.0 new r.makes.2 (All-tail IsReaderStep ask last r.readers) after in
+          subst (λ (d : List (List Record)). AreStanding d nodes user (map (λ (item : ListedCopy). item.id) items)) (s.stage.disks ∙ sym done.disks)
+          (began_lists plan tells s.stage.story r.mid r.makes.0 s.stage.stands few s.stage.parts g s.stage.readers number user s.began login_ manager asked items r.makes.1 nodes exactly)
+
+      -- the login begins
+      from_begin : (n : ℕ) (proof : Proof) (number : Number) (back : List MadeStep) (new : World) → Among n nodes → Ran Stage (login_begun n user proof number ∷ back) new
+          → (mid : World) × Began number mid × MakesAll plan tells mid back new × All IsReaderStep back
+      from_begin n proof number back new member r =
+          let begin = login_begun n user proof number in (
+            r.makes.0,
+            record {
+              stage = stage_on r.mid r.makes.0 begin r.makes.1 (All-head IsReaderStep begin back r.readers) r.state;
+              began = begins_settled plan tells r.state.story r.mid r.makes.0 r.state.stands g r.state.readers n (members_have g.members n ((exactly n).1 member)) user proof number r.makes.1;
+            },
+            r.makes.2,
+            All-tail IsReaderStep begin back r.readers,
+          )
+
+      from_stage : (steps : List MadeStep) (new : World) → Stage start → MakesAll plan tells start steps new → All IsReaderStep steps → IsListed nodes user items steps → Shown new
       from_stage steps new first makes readers l =
-          let begin = login_begun l.n user l.proof l.number in
-          let ask = listing_told l.number l.login l.manager l.asked items in
-          let split : steps ≡ l.first ++ (begin ∷ (l.between ++ ask ∷ l.last)) = l.split ∙ append_assoc l.first (begin ∷ l.between) (ask ∷ l.last) in
-          let before = run Stage stage_on l.first (begin ∷ l.between ++ ask ∷ l.last) start new (subst (λ (x : List MadeStep). MakesAll plan tells start x new) split makes)
-          (subst (All IsReaderStep) split readers) first in
-          let member = members_have g.members l.n ((exactly l.n).1 l.member) in
-          let begun : Began l.number before.makes.0 = record {
-            stage = stage_on before.mid before.makes.0 begin before.makes.1 (All-head IsReaderStep begin (l.between ++ ask ∷ l.last) before.readers) before.state;
-            began = begins_settled plan tells before.state.story before.mid before.makes.0 before.state.stands g before.state.readers l.n member user l.proof l.number before.makes.1;
-          } in
-          let waited = run (Began l.number) (began_on l.number) l.between (ask ∷ l.last) before.makes.0 new before.makes.2 (All-tail IsReaderStep begin (l.between ++ ask ∷ l.last) before.readers) begun in
-          let s = waited.state in
-          let standing = began_lists plan tells s.stage.story waited.mid waited.makes.0 s.stage.stands few s.stage.parts g s.stage.readers l.number user s.began l.login l.manager l.asked items waited.makes.1 nodes exactly in
-          let after = stage_on waited.mid waited.makes.0 ask waited.makes.1 (All-head IsReaderStep ask l.last waited.readers) s.stage in
-          let done = run_all l.last waited.makes.0 new waited.makes.2 (All-tail IsReaderStep ask l.last waited.readers) after in
-          subst (λ (d : List (List Record)). AreStanding d nodes user (map (λ (item : ListedCopy). item.id) items)) (s.stage.disks ∙ sym done.disks) standing
-        where
-          run_all : (steps : List MadeStep) (a b : World) → MakesAll plan tells a steps b → All IsReaderStep steps → Stage a → Stage b
-          run_all [] a b is readers s = subst Stage (sym is) s
-          run_all (made ∷ steps) a b (mid, first_, others) readers s = run_all steps mid b others (All-tail IsReaderStep made steps readers) (stage_on a mid made first_ (All-head IsReaderStep made steps readers) s)
+          let back : List MadeStep = listing_told l.number l.login l.manager l.asked items ∷ l.last in
+          let middle : List MadeStep = login_begun l.n user l.proof l.number ∷ (l.between ++ back) in
+          let split : steps ≡ l.first ++ middle = l.split ∙ append_assoc l.first (login_begun l.n user l.proof l.number ∷ l.between) back in
+          let begun = from_begin l.n l.proof l.number (l.between ++ back) new l.member
+          (run Stage stage_on l.first middle start new (subst (λ (x : List MadeStep). MakesAll plan tells start x new) split makes) (subst (All IsReaderStep) split readers) first) in
+          from_ask l.number l.login l.manager l.asked l.last new (run (Began l.number) (began_on l.number) l.between back begun.0 new begun.2 begun.3 begun.1)
 
 pub login_is_shown : (plan : Plan) (tells : Bool) (story : List (List login.Slot)) (old new : World) (steps : List MadeStep) → Stands plan tells story old → plan.nodes ≤ 64 → PartsHold plan (mail_world_of old)
     → old.flying ≡ [] → (g : Membership) → IsSettled (whole_world_of old) g → MakesAll plan tells old steps new → All IsReaderStep steps

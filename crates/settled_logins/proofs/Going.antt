@@ -33,7 +33,7 @@ use Rattle.joint_model.specs.Laws.{ChangesTicketsAlone}
 use Rattle.joint_model.proofs.Kept.{read_here, read_set}
 use Rattle.joint_model.proofs.Settled.{read_back}
 use Rattle.joint_world.specs.World.{World, mail_world_of, reads_of, IsUp, with_letter}
-use Rattle.joint_world.specs.Rules.{reacted, befallen}
+use Rattle.joint_world.specs.Rules.{reacted}
 use Rattle.joint_world.specs.Putting.{Missed, missed_by, missed_at, missed_under, missed, put, Puts}
 use Rattle.joint_world.specs.Makes.{Does, learnt}
 use Rattle.joint_world.proofs.Putting.{noted_slots}

@@ -1,5 +1,5 @@
 -- The listing that a login is answered with has exactly what stands.
-use Rattle.std.proofs.Common.{◌≡◌, ◌≢◌, inl, inr, ◌≤◌, ℕ, Bool, true, false, List, [], ◌∷◌, map, Some, refl, sym, ap, ◌∙◌, subst, if◌then◌else◌}
+use Rattle.std.proofs.Common.{◌≡◌, inl, inr, ◌≤◌, ℕ, Bool, true, false, List, [], ◌∷◌, map, Some, refl, sym, ap, ◌∙◌, subst, if◌then◌else◌}
 use Rattle.std.specs.List.{list_all}
 use Rattle.mail_model.specs.Identity.{Id}
 use Rattle.mail_model.specs.Plan.{Plan}
@@ -35,7 +35,7 @@ use Rattle.login_model.specs.Progress.{ReadAnswer, ask_read}
 use Rattle.login_model.specs.Progress.ReadAnswer.{Lists, Denies, Gives, Fails}
 use Rattle.login_model.specs.Progress.ReadAsk.{Done}
 use Rattle.login_model.proofs.Asking.{lists_all}
-use Rattle.joint_model.specs.Joint.{Node, Slot, slot_at, slot_up, user_manager_in, read_node, read_slot}
+use Rattle.joint_model.specs.Joint.{Node, slot_at, slot_up, user_manager_in, read_node, read_slot}
 use Rattle.joint_model.proofs.Fresh.{lists}
 use Rattle.joint_model.proofs.Kept.{read_here}
 use Rattle.joint_model.proofs.Premises.{gone_seen}

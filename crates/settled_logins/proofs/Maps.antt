@@ -1,6 +1,5 @@
 -- In a settled epoch managers name exactly the fragments, and members agree, by the records of the disks.
-use Rattle.std.proofs.Common.{◌≡◌, inl, ◌≤◌, ℕ, zero, suc, Bool, true, List, map, Option, Some, refl, sym, ap, ◌∙◌, subst, le_trans}
-use Rattle.mail_model.specs.Identity.{Key, State}
+use Rattle.std.proofs.Common.{◌≡◌, inl, ◌≤◌, ℕ, zero, suc, Bool, true, List, map, Some, refl, sym, ap, ◌∙◌, subst, le_trans}
 use Rattle.mail_model.specs.Plan.{Plan}
 use Rattle.mail_model.specs.Record.{Record}
 use Rattle.object_model.specs.Lists.{Among}
@@ -13,7 +12,6 @@ use Rattle.maps_model.specs.Cluster as maps
 use Rattle.maps_model.specs.Words.{Known}
 use Rattle.whole_model.specs.Whole as whole
 use Rattle.whole_model.specs.Whole.{maps_disk_of}
-use Rattle.whole_world.specs.World as whole_world
 use Rattle.whole_world.specs.Settled.{IsSettled}
 use Rattle.whole_world.proofs.Along.{maps_here}
 use Rattle.whole_world.proofs.Settling.{agree}
@@ -24,9 +22,9 @@ use Rattle.joint_model.specs.Joint.{Slot, slot_at, slot_up, whole_slot, user_nam
 use Rattle.joint_model.proofs.Fresh.{names}
 use Rattle.joint_model.proofs.Kept.{whole_here, read_here}
 use Rattle.joint_model.proofs.Settled.{whole_back, members_have, have_members}
-use Rattle.joint_world.specs.World.{World, whole_world_of, reads_of, cluster_of}
+use Rattle.joint_world.specs.World.{World, whole_world_of, cluster_of}
 use Rattle.joint_world.specs.Laws.{Stands}
-use Rattle.standing_model.specs.Standing.{disk_at, OnDisk, HasExactly, HasFragment, SaysAlike, MembersAgree}
+use Rattle.standing_model.specs.Standing.{disk_at, OnDisk, HasExactly, HasFragment, MembersAgree}
 use Rattle.settled_logins.specs.Reading.{disks_of}
 use Rattle.settled_logins.specs.Laws.{TellsFragments}
 use Rattle.settled_logins.proofs.Epochs.{MemberUp, member_up, in_epoch, as_joint, members_of_plan}
@@ -51,8 +49,7 @@ module _ (plan : Plan) (tells : Bool) (story : List (List login.Slot)) (w : Worl
       let x = on_slot w a records at in
       let there = agree plan (whole_world_of w) stands.whole g settled one.0 other.0 one.1 other.1 (whole_slot x.0) (whole_here w.slots one.0.node x.0 (subst (λ n. slot_at w.slots n ≡ Some x.0) (sym one.2) x.1)) key state
       (subst (λ d. said key d ≡ Some state) (sym x.2) says) (subst (λ n. has state.targets n ≡ true) (sym other.2) target) in
-      let y = whole_back w.slots other.0.node there.slot there.here in
-      (
+      let y = whole_back w.slots other.0.node there.slot there.here in (
         y.0.disk,
         of_slot w b y.0 (subst (λ n. slot_at w.slots n ≡ Some y.0) other.2 y.1),
         record { other = there.held; says = subst (λ (s : whole.Slot). said key s.disk ≡ Some there.held) (sym y.2) there.says; value = there.same.value; stamp = there.same.stamp; targets = there.same.targets },

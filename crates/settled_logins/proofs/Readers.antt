@@ -1,10 +1,8 @@
 -- Each step of a reader, whatever it is and whatever comes of it, keeps what stands.
-use Rattle.std.proofs.Common.{◌≡◌, inl, inr, ℕ, Bool, true, false, List, map, Option, Some, None, refl, sym, ap, ◌∙◌, subst, true≢false}
-use Rattle.mail_model.specs.Identity.{Id}
-use Rattle.mail_model.specs.Plan.{Plan, Proof}
-use Rattle.object_model.specs.Lists.{Among}
+use Rattle.std.proofs.Common.{◌≡◌, inl, inr, ℕ, Bool, false, List, Some, None, refl, sym, ap, ◌∙◌, subst, true≢false}
+use Rattle.mail_model.specs.Plan.{Plan}
 use Rattle.object_model.specs.Mishaps.MishapKind.{Dropped}
-use Rattle.object_model.specs.Letters.{Number, Letter, Membership, is_read_body}
+use Rattle.object_model.specs.Letters.{Membership}
 use Rattle.cluster_model.specs.Makes as mail_makes
 use Rattle.cluster_model.specs.Makes.{posted_letter}
 use Rattle.cluster_model.specs.Steps as mail_steps

@@ -8,7 +8,6 @@ use Rattle.cluster_model.specs.Cluster as mail
 use Rattle.maps_model.specs.Cluster as maps
 use Rattle.whole_model.specs.Whole as whole
 use Rattle.whole_model.specs.Rules.{follows}
-use Rattle.whole_world.specs.World as whole_world
 use Rattle.whole_world.specs.World.{FollowsAlong}
 use Rattle.login_model.specs.Cluster as login
 use Rattle.login_model.specs.Listing.{IsStillSlot, AreStill}
@@ -17,9 +16,8 @@ use Rattle.joint_model.specs.Joint.{Node, Life, Slot, slot_at, with_slot, slot_u
 use Rattle.joint_model.specs.Joint.Life.{Up, Down, Lost}
 use Rattle.joint_model.proofs.Kept.{whole_here, read_here}
 use Rattle.joint_model.proofs.Settled.{read_back}
-use Rattle.joint_world.specs.World.{World, whole_world_of, mail_world_of, IsUp}
-use Rattle.settled_logins.specs.Reading.{disks_of}
-use Rattle.settled_logins.specs.Settled.{KeepsMapsAndLog, IsStill}
+use Rattle.joint_world.specs.World.{World, whole_world_of, mail_world_of}
+use Rattle.settled_logins.specs.Settled.{IsStill}
 
 -- what stays of a slot
 abbrev pub life_stays : whole.Life → Option (maps.Node × Log)

@@ -1,6 +1,6 @@
 -- A listing that has exactly what stands in a cluster has it by the records of the disks.
 use Rattle.std.proofs.Common.{◌≡◌, ◌≢◌, inl, inr, ⊎_elim, ◌<◌, ℕ, zero, suc, Bool, true, false, List, [], ◌∷◌, map, Some, refl, sym, ap, ◌∙◌, subst, arith, true≢false, AllPairs}
-use Rattle.std.specs.Prelude.{◌↔◌, length, slice_get, slice_index_or}
+use Rattle.std.specs.Prelude.{◌↔◌, length, slice_index_or}
 use Rattle.std.specs.Ordering.{nat_cmp, is_lt, ordering_reverse, ordering_then}
 use Rattle.std.specs.Cmp.{IsTotalOrder, nat_cmp_total}
 use Rattle.std.specs.declared.cmp.Ordering.{Ordering}

@@ -1,13 +1,12 @@
 -- In each step of a reader, what is known of calls that read is known with a story that is still, and disks, maps and logs stay.
-use Rattle.std.proofs.Common.{◌≡◌, inl, inr, ⊎_elim, ℕ, arith, Bool, true, false, List, [], ◌∷◌, ◌++◌, append-nil, map, Option, Some, None, refl, sym, ap, ◌∙◌, subst, true≢false}
+use Rattle.std.proofs.Common.{◌≡◌, inl, inr, ℕ, arith, Bool, true, List, [], ◌∷◌, ◌++◌, append-nil, map, Some, None, refl, sym, ap, ◌∙◌, subst}
 use Rattle.mail_model.specs.Plan.{Plan}
 use Rattle.mail_model.specs.Record.{Record}
 use Rattle.object_model.specs.Lists.{Among}
 use Rattle.object_model.specs.Locks.{Held}
 use Rattle.object_model.specs.Mishaps.{MishapKind}
-use Rattle.object_model.specs.Mishaps.MishapKind.{Dropped, Stale as StaleKind, Down as DownKind}
+use Rattle.object_model.specs.Mishaps.MishapKind.{Stale as StaleKind, Down as DownKind}
 use Rattle.object_model.specs.Letters.{Number, Letter, is_read_body}
-use Rattle.cluster_model.specs.Cluster as mail_cluster
 use Rattle.cluster_model.specs.Cluster.{CallKind}
 use Rattle.cluster_model.specs.Deeds as mail_deeds
 use Rattle.cluster_model.specs.Makes as mail_makes
@@ -22,7 +21,7 @@ use Rattle.cluster_model.proofs.Stepping.{flew}
 use Rattle.whole_world.specs.Laws as whole_laws
 use Rattle.whole_world.specs.Makes as whole_makes
 use Rattle.whole_world.specs.Makes.DoesStep.{ForMessages, PostsMaps, Starts, OpensGroup, ConcludesGroup, SendsReports}
-use Rattle.whole_world.specs.Steps.{Step, Said, StepOutcome}
+use Rattle.whole_world.specs.Steps.{Said, StepOutcome}
 use Rattle.whole_world.specs.Steps.Step.{OfMessages}
 use Rattle.whole_world.specs.Steps.Said.{Told}
 use Rattle.whole_world.specs.Steps.StepOutcome.{Says}
@@ -43,7 +42,7 @@ use Rattle.login_model.proofs.Hears.{hears_acts}
 use Rattle.login_model.proofs.Lost.{heard_may}
 use Rattle.login_model.proofs.Others.{other_acts}
 use Rattle.login_model.proofs.Still.{since_more}
-use Rattle.joint_model.specs.Joint.{Node, Slot, slot_at, with_slot, slot_up, read_node, read_slot}
+use Rattle.joint_model.specs.Joint.{Node, Slot, with_slot, slot_up, read_node, read_slot}
 use Rattle.joint_model.proofs.Kept.{read_here, read_set}
 use Rattle.joint_world.specs.World.{World, whole_world_of, mail_world_of, reads_of, IsUp}
 use Rattle.joint_world.specs.Rules.{Reaction, reacted, judged_here}
@@ -64,7 +63,7 @@ use Rattle.joint_world.proofs.Single.{puts_keep}
 use Rattle.joint_world.proofs.Standing.{late_hears}
 use Rattle.joint_world.proofs.Views.{login_same}
 use Rattle.settled_logins.proofs.Going.{Goes, goes_acted, goes_taken, rule_still, GoesOn, does_go, heard_go, loses_go}
-use Rattle.settled_logins.proofs.Resting.{Rests, rests_same, rests_then, rests_whole, rests_set, rests_follow, rests_seen, log_rest, log_set}
+use Rattle.settled_logins.proofs.Resting.{Rests, rests_then, rests_whole, rests_set, rests_follow, rests_seen, log_rest, log_set}
 
 puts_rest : (tells : Bool) (queue : List Letter) (w new : World) → Puts tells queue w new → Rests w new
 puts_rest tells queue w new (fuel, e) = rests_whole w new (puts_keep tells fuel queue w new e).0
