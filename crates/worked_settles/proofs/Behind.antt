@@ -1,31 +1,20 @@
 -- Whatever acts led to the entries of a run: behind a settle that is told once, with no fault, the cluster has settled while no session was open.
-use Rattle.std.proofs.Common.{◌≡◌, ℕ, Bool, true, false, not, ◌&&◌, List, [], ◌∷◌, ◌++◌, flat_map, Option, Some, None, refl, sym, ap, ◌∙◌, subst, codes, append_assoc, append-nil, ap₂}
+use Rattle.std.proofs.Common.{◌≡◌, ℕ, Bool, true, false, List, [], ◌∷◌, ◌++◌, flat_map, Some, refl, sym, ap, ◌∙◌, subst, append_assoc, append-nil, ap₂}
 use Rattle.std.specs.List.{list_all}
-use Rattle.std.proofs.lemmas.List.Concat.{flat_map-append}
 use Rattle.mail_model.specs.Plan.{Plan}
 use Rattle.mail_model.specs.Tape.{ClusterOrder, Order, tape_order}
 use Rattle.mail_model.specs.Tape.Order.{Moves}
-use Rattle.mail_model.specs.Tape.ClusterOrder.{Settle, Maps}
-use Rattle.mail_model.specs.Transcript.{Entry, all_of}
-use Rattle.mail_model.specs.Transcript.Entry.{Event}
-use Rattle.session_model.specs.Sessions.{Session, AreSessions, session_at}
-use Rattle.session_model.specs.Events.{ClusterEvent, NodeLife, IsEventOf, event_entries}
-use Rattle.session_model.specs.Events.ClusterEvent.{WentDown, CameUp, WasLost, WasHeard, WasThrown, WasDropped, HasFlowed, HasSent, HasWidened, HasGrouped, HasFormed, HasSettled, WasAbsent, HasMapped, HasTicked, HasSummed, HasFaulted}
+use Rattle.mail_model.specs.Transcript.{Entry}
+use Rattle.session_model.specs.Sessions.{Session, session_at}
+use Rattle.session_model.specs.Events.{ClusterEvent, IsEventOf, event_entries}
 use Rattle.session_model.specs.Acts.{Act, Acted}
 use Rattle.session_model.specs.Acts.Act.{Opens, Does, Faults, StillWaits, Leaves, Makes, Abandons}
 use Rattle.session_model.specs.Acts.Deed.{IsFed, Hears, IsAnswered, IsGivenUp, Falls, Closes}
 use Rattle.session_model.specs.Lives.{life_after}
 use Rattle.session_model.specs.Turns.{Turn, Next, ActsGo, Starts, Waits, turn_after_event}
 use Rattle.session_model.specs.Turns.Turn.{Asking}
-use Rattle.session_model.specs.Run.{IsHandled, AreHandled, count_on, IsBegun}
-use Rattle.fresh_sessions.specs.Acts.{nodes_to}
-use Rattle.fresh_sessions.specs.Acts.ShowsMembers.{AtOpening}
-use Rattle.fresh_sessions.specs.Tapes.{IsSettledBehind}
-use Rattle.fresh_sessions.specs.Kept.{IsRun}
-use Rattle.worked_settles.proofs.Formed.{none_formed}
-use Rattle.worked_settles.proofs.FreshOwes.{passes_inside}
-use Rattle.worked_settles.proofs.Shown.{shows}
-use Rattle.worked_settles.proofs.Calm.{begins, is_calm, passes_both, calm_run, quiet_run, keeps_order}
+use Rattle.session_model.specs.Run.{IsHandled, AreHandled, IsBegun}
+use Rattle.worked_settles.proofs.Passes.{passes_inside, passes_both}
 
 -- lines that were handled, in two parts
 pub record AreParted (plan : Plan) (been : List Act) (old new : List Session) (front back : List (List ℕ)) (acts : List (List Act)) (outputs : List (List (List Entry))) : Type 0 where

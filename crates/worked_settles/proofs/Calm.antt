@@ -1,14 +1,12 @@
 -- What the entries of a run tell of its acts: where no entry names a fault no disk failed; and acts of lines that ask for no epoch form none.
-use Rattle.std.proofs.Common.{◌≡◌, ◌≢◌, ℕ, Bool, true, false, not, ◌&&◌, ◌||◌, List, [], ◌∷◌, ◌++◌, flat_map, Option, Some, None, refl, sym, ap, ap₂, ◌∙◌, subst, codes, inl, inr}
+use Rattle.std.proofs.Common.{◌≡◌, ℕ, Bool, true, false, not, ◌&&◌, List, [], ◌∷◌, ◌++◌, flat_map, Option, Some, refl, sym, ap, ap₂, ◌∙◌, codes, inl, inr}
 use Rattle.std.specs.Prelude.{is_some}
 use Rattle.std.specs.List.{list_all}
 use Rattle.std.proofs.lemmas.Bool.{and_parts, and_from}
-use Rattle.std.proofs.lemmas.List.Concat.{flat_map-append}
-use Rattle.std.proofs.lemmas.List.Folds.{list_all-append}
 use Rattle.mail_model.specs.Plan.{Plan}
-use Rattle.mail_model.specs.Tape.{ClusterOrder, Order, tape_order, strip}
+use Rattle.mail_model.specs.Tape.{Order, tape_order, strip}
 use Rattle.mail_model.specs.Tape.Order.{Open, Say, Feed, Close, GiveUp, Moves, End}
-use Rattle.mail_model.specs.Transcript.{Entry, all_of, said_lines}
+use Rattle.mail_model.specs.Transcript.{Entry, all_of}
 use Rattle.mail_model.specs.Transcript.Entry.{Said, Event, Refused}
 use Rattle.session_model.specs.Sessions.{Session}
 use Rattle.session_model.specs.Events.{ClusterEvent, event_entries, failed_by_event}
@@ -21,6 +19,7 @@ use Rattle.session_model.specs.Turns.Turn.{Hearing, Beginning, Closing, Falling,
 use Rattle.session_model.specs.Run.{IsHandled, AreHandled}
 use Rattle.session_model.proofs.Driven.{handled_made, all_written}
 use Rattle.worked_settles.proofs.Formed.{is_quiet, keeps_epoch}
+use Rattle.worked_settles.proofs.Passes.{passes_both, both_pass}
 
 -- the event begins with this word
 abbrev pub begins : List ℕ → Entry → Bool
@@ -31,18 +30,6 @@ begins word (Refused text) = false
 -- the entry names no fault, and no member that is not live
 abbrev pub is_calm : Entry → Bool
 is_calm entry = not (begins (codes "fault ") entry) && not (begins (codes "not-all-up ") entry)
-
--- parts of what passes pass
-pub passes_both : {X : Type 0} (p : X → Bool) (xs ys : List X) → list_all p (xs ++ ys) ≡ true → (list_all p xs ≡ true) × (list_all p ys ≡ true)
-passes_both p xs ys is = and_parts (list_all p xs) (list_all p ys) (sym (list_all-append p xs ys) ∙ is)
-
-pub both_pass : {X : Type 0} (p : X → Bool) (xs ys : List X) → list_all p xs ≡ true → list_all p ys ≡ true → list_all p (xs ++ ys) ≡ true
-both_pass p xs ys first second = list_all-append p xs ys ∙ and_from (list_all p xs) (list_all p ys) first second
-
--- replies are calm, and settle nothing
-pub said_pass : (p : Entry → Bool) (k : ℕ) → ((text : List ℕ) → p (Said k text) ≡ true) → (lines : List (List ℕ)) → list_all p (said_lines k lines) ≡ true
-said_pass p k each [] = refl
-said_pass p k each (line ∷ lines) = and_from (p (Said k line)) (list_all p (said_lines k lines)) (each line) (said_pass p k each lines)
 
 -- no disk failed where the entries are calm
 calm_event : (event : ClusterEvent) → list_all is_calm (event_entries event) ≡ true → failed_by_event event ≡ []

@@ -1,17 +1,15 @@
 -- Whoever is shown as the one session of a tape, and said QUIT, has ended.
-use Rattle.std.proofs.Common.{◌≡◌, ◌⊎◌, inl, inr, ⊎_elim, ℕ, zero, suc, Bool, true, false, List, [], ◌∷◌, ◌++◌, length, map, if◌then◌else◌, Option, Some, None, refl, sym, ap, ◌∙◌, subst, arith, codes, slice_get, ◌+◌}
+use Rattle.std.proofs.Common.{◌≡◌, ◌⊎◌, inl, inr, ⊎_elim, ℕ, zero, suc, List, [], ◌∷◌, ◌++◌, map, if◌then◌else◌, refl, sym, ap, ◌∙◌, subst, codes, ◌+◌}
 use Rattle.mail_model.specs.Plan.{Plan}
-use Rattle.mail_model.specs.Session.{Unit, Told, is_quit_line, reply_lines, silent}
-use Rattle.mail_model.specs.Session.Unit.{Line, Text}
+use Rattle.mail_model.specs.Session.{Unit, silent}
+use Rattle.mail_model.specs.Session.Unit.{Line}
 use Rattle.mail_model.specs.Stored.{opened}
 use Rattle.mail_model.specs.Tape.{Protocol}
 use Rattle.mail_model.specs.Tape.Protocol.{Smtp}
 use Rattle.mail_model.specs.Transcript.{Entry}
 use Rattle.mail_model.proofs.Sessions.{by_number}
 use Rattle.object_model.specs.Lists.{Among}
-use Rattle.session_model.specs.Calls.{Call}
-use Rattle.session_model.specs.Talk.{TalkState, Exchange, Standing, Lead, Breaks, mail_lead}
-use Rattle.session_model.specs.Talk.Lead.{Ends}
+use Rattle.session_model.specs.Talk.{Exchange, Standing, Breaks, mail_lead}
 use Rattle.session_model.specs.Talk.TalkState.{Mailing, Entering, Reading}
 use Rattle.session_model.specs.Talk.Standing.{Hearing, Waiting, EndedByQuit, EndedDown, EndedClosed}
 use Rattle.session_model.specs.MailTalk.{MailGoes, IsMailTalk, mail_stands}

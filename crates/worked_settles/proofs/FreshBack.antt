@@ -1,15 +1,14 @@
 -- Whatever acts led to the transcript of the freshly ended tape, and whatever sessions it shows: the tape is freshly ended for its second session, whose third exchange is
 -- the UIDL that the transcript shows.
-use Rattle.std.proofs.Common.{◌≡◌, inl, inr, ◌≤◌, ℕ, Bool, true, false, List, [], ◌∷◌, ◌++◌, length, map, flat_map, Option, Some, None, Ok, refl, sym, ap, ◌∙◌, subst, arith, codes, length-append, take}
+use Rattle.std.proofs.Common.{◌≡◌, inl, ◌≤◌, ℕ, Bool, true, List, [], ◌∷◌, ◌++◌, length, Some, refl, sym, ap, ◌∙◌, arith, codes, length-append, take}
 use Rattle.std.specs.List.{list_all}
 use Rattle.mail_model.specs.Maildrop.{entered_text}
 use Rattle.mail_model.specs.PopReplies.{Item, one_line, ready_text}
 use Rattle.mail_model.specs.Session.{Unit}
 use Rattle.mail_model.specs.Session.Unit.{Line}
 use Rattle.mail_model.specs.Smtp.{closing_text, greeting_text, helo_text, stored_text}
-use Rattle.mail_model.specs.Tape.{tape_order}
-use Rattle.mail_model.specs.Tape.Protocol.{Smtp, Pop}
-use Rattle.mail_model.specs.Transcript.{Entry, said_lines, all_of}
+use Rattle.mail_model.specs.Tape.Protocol.{Pop}
+use Rattle.mail_model.specs.Transcript.{Entry, said_lines}
 use Rattle.object_model.specs.Lists.{Among}
 use Rattle.session_model.specs.Acts.{Act}
 use Rattle.session_model.specs.Events.{event_entries}
@@ -21,22 +20,21 @@ use Rattle.session_model.proofs.Readings.{one_reading}
 use Rattle.fresh_sessions.specs.Kept.{IsRun}
 use Rattle.fresh_sessions.specs.Tapes.{IsFreshlyEnded}
 use Rattle.worked_sessions.proofs.Alike.{Shown, shown_at}
-use Rattle.worked_settles.specs.FreshTape.{worked_plan, three_members, told_lines, told_entries, reader_lines, fresh_lines, fresh_entries, teller, reader, asking, ids_reply, told_acts, message_entries}
-use Rattle.worked_settles.proofs.Calm.{is_calm, said_pass, keeps_order, both_pass}
+use Rattle.worked_settles.specs.FreshTape.{worked_plan, three_members, told_lines, told_entries, reader_lines, fresh_lines, fresh_entries, teller, reader, ids_reply, told_acts, message_entries}
+use Rattle.worked_settles.proofs.Calm.{is_calm}
 use Rattle.worked_settles.proofs.Ended.{quit, all_ended}
 use Rattle.worked_settles.proofs.FreshRun.{told_outputs, told_run}
 use Rattle.worked_settles.proofs.FreshEnd.{ends, is_fresh_run}
 use Rattle.worked_settles.proofs.Settled.{HasSettledBehind, is_other, settled_behind}
 use Rattle.worked_settles.proofs.Shown.{shows}
-use Rattle.worked_settles.proofs.Whole.{AreThree, pair, octets_of, seen_octets, chain_octets, all_seen, three}
+use Rattle.worked_settles.proofs.Whole.{AreThree, octets_of, seen_octets, chain_octets, all_seen, three}
 use Rattle.object_model.proofs.Lists.{among_behind}
 use Rattle.mail_model.specs.Told.{unit_octets}
 use Rattle.std.proofs.lemmas.List.Concat.{flat_map-append}
-use Rattle.worked_settles.proofs.FreshOwes.{one, two}
+use Rattle.worked_settles.proofs.Digits.{digit_one, digit_two, digit_three, digit_four, digit_five}
 use Rattle.mail_model.specs.Transcript.Entry.{Event}
 use Rattle.session_model.specs.Calls.{unstored_text}
-use Rattle.std.specs.Fmt.{decimal}
-use Rattle.std.proofs.lemmas.Fmt.{decimal_digit}
+use Rattle.worked_settles.proofs.Passes.{said_pass, both_pass}
 
 -- the worked session that told the messages, before the settle
 teller_is : IsSession worked_plan told_lines told_entries 1 teller
@@ -52,17 +50,8 @@ told_with a b c d e =
     said_lines 1 (greeting_text 1 ∷ helo_text 1 ∷ []) ++ message_entries ++ said_lines 1 (unstored_text ∷ []) ++ message_entries
     ++ Event (b ++ codes " heard") ∷ Event (c ++ codes " heard") ∷ Event (d ++ codes " heard") ∷ Event (e ++ codes " heard") ∷ said_lines 1 (stored_text ∷ closing_text 1 ∷ []) ++ Event (a ++ codes " closed") ∷ []
 
-three_is : decimal 3 ≡ codes "3"
-three_is = decimal_digit 3 (omega arith)
-
-four_is : decimal 4 ≡ codes "4"
-four_is = decimal_digit 4 (omega arith)
-
-five_is : decimal 5 ≡ codes "5"
-five_is = decimal_digit 5 (omega arith)
-
 told_spelt : told_entries ≡ told_with (codes "1") (codes "2") (codes "3") (codes "4") (codes "5")
-told_spelt = λ i. told_with (one i) (two i) (three_is i) (four_is i) (five_is i)
+told_spelt = λ i. told_with (digit_one i) (digit_two i) (digit_three i) (digit_four i) (digit_five i)
 
 -- no fault, and nothing has settled yet
 told_pass : (p : Entry → Bool) → list_all p (told_with (codes "1") (codes "2") (codes "3") (codes "4") (codes "5")) ≡ true → list_all p told_entries ≡ true

@@ -1,17 +1,11 @@
 -- The freshly ended tape, with any listing: its run, its sessions and its end.
-use Rattle.std.proofs.Common.{◌≡◌, inl, inr, ℕ, zero, suc, Bool, true, false, ◌&&◌, List, [], ◌∷◌, ◌++◌, length, map, flat_map, All, Option, Some, None, Ok, refl, sym, ap, ◌∙◌, subst, codes, append-nil}
+use Rattle.std.proofs.Common.{inl, List, [], ◌∷◌, ◌++◌, flat_map, refl, sym, subst, codes}
 use Rattle.mail_model.specs.PopReplies.{Item}
-use Rattle.mail_model.specs.Session.Unit.{Line}
-use Rattle.mail_model.specs.Transcript.{Entry, all_of}
-use Rattle.session_model.specs.Acts.{Act}
-use Rattle.session_model.specs.Acts.Act.{Opens, Does, Makes, StillWaits}
+use Rattle.mail_model.specs.Transcript.{Entry}
 use Rattle.session_model.specs.Runs.{Shows}
-use Rattle.session_model.specs.Sessions.{Session}
-use Rattle.session_model.specs.Talk.{Exchange}
-use Rattle.fresh_sessions.specs.Acts.{ShowsMembers}
 use Rattle.fresh_sessions.specs.Acts.ShowsMembers.{AtOpening}
-use Rattle.fresh_sessions.specs.Tapes.{IsSettledBehind, EndsFresh, IsFreshlyEnded}
-use Rattle.worked_settles.specs.FreshTape.{IsFreshRun, worked_plan, three_members, told_lines, told_acts, teller, reader_acts, fresh_lines, fresh_acts, fresh_entries, fresh_sessions, reader, asking}
+use Rattle.fresh_sessions.specs.Tapes.{IsSettledBehind, EndsFresh}
+use Rattle.worked_settles.specs.FreshTape.{IsFreshRun, worked_plan, three_members, told_lines, told_acts, teller, reader_acts, fresh_lines, fresh_acts, fresh_entries, fresh_sessions}
 use Rattle.worked_settles.proofs.FreshRun.{told_outputs, told_run}
 use Rattle.worked_settles.proofs.ReaderRun.{reader_outputs, fresh_handled, fresh_wrote, fresh_run}
 use Rattle.worked_settles.proofs.Shown.{shows, all_answered}

@@ -1,42 +1,34 @@
 -- The freshly ended tape with the right listing: what is owed of its end is given, and the promises are kept.
-use Rattle.std.proofs.Common.{◌≡◌, ◌⊎◌, inl, inr, ◌+◌, ℕ, Bool, true, false, ◌&&◌, List, [], ◌∷◌, ◌++◌, length, get_or, map, flat_map, All, Option, Some, None, refl, sym, ap, ◌∙◌, subst, arith, codes, append_assoc}
+use Rattle.std.proofs.Common.{◌≡◌, inl, inr, ◌+◌, ℕ, Bool, true, false, List, [], ◌∷◌, ◌++◌, length, get_or, map, flat_map, All, Option, Some, refl, sym, ap, ◌∙◌, subst, codes, append_assoc}
 use Rattle.std.specs.List.{list_all}
-use Rattle.std.proofs.lemmas.Bool.{and_parts}
-use Rattle.std.proofs.lemmas.Fmt.{decimal_digit}
 use Rattle.std.proofs.lemmas.List.Concat.{flat_map-append}
-use Rattle.std.proofs.lemmas.List.Folds.{list_all-append}
 use Rattle.mail_model.specs.Maildrop.{Given}
 use Rattle.mail_model.specs.PopReplies.{Item}
-use Rattle.mail_model.specs.Tape.{Order, tape_order}
+use Rattle.mail_model.specs.Tape.{tape_order}
 use Rattle.mail_model.specs.Tape.Protocol.{Pop}
 use Rattle.mail_model.specs.Tape.Order.{Say, Moves}
 use Rattle.mail_model.specs.Tape.ClusterOrder.{Settle, Maps}
-use Rattle.mail_model.specs.Site.{nth_id}
 use Rattle.session_model.specs.Calls.{Call, Answer}
-use Rattle.session_model.specs.Calls.Call.{Deliver, Login}
+use Rattle.session_model.specs.Calls.Call.{Login}
 use Rattle.session_model.specs.Calls.Answer.{Listed}
 use Rattle.session_model.specs.Acts.{Act, opened_by}
 use Rattle.session_model.specs.Acts.Act.{Opens, Makes}
 use Rattle.session_model.specs.Books.{AmongAnswers}
 use Rattle.session_model.specs.Events.ClusterEvent.{HasSettled, HasMapped}
 use Rattle.session_model.specs.Logs.{Answered, answered_by}
-use Rattle.standing_model.specs.Standing.{AreStanding, NamesFragments, MembersAgree}
+use Rattle.standing_model.specs.Standing.{AreStanding}
 use Rattle.fresh_sessions.specs.Acts.{IsReaderAct, ShowsMembers, OwesSettled}
-use Rattle.fresh_sessions.specs.Tapes.{EndsInMaps, SettledAgrees}
+use Rattle.fresh_sessions.specs.Tapes.{SettledAgrees}
 use Rattle.worked_sessions.proofs.WrongStores.{same_end}
 use Rattle.object_model.specs.Lists.{Among}
-use Rattle.worked_settles.specs.FreshTape.{FreshTapeIsMet, worked_plan, three_members, told_lines, fresh_lines, fresh_acts, fresh_disks, right_items, login, ids_reply}
+use Rattle.worked_settles.specs.FreshTape.{FreshTapeIsMet, worked_plan, three_members, told_lines, fresh_lines, fresh_acts, fresh_disks, right_items, ids_reply}
 use Rattle.worked_settles.proofs.Formed.{is_quiet, none_formed, opening_members}
 use Rattle.worked_settles.proofs.Standing.{alice, both_stand}
 use Rattle.worked_settles.proofs.FreshEnd.{is_fresh_run}
 use Rattle.worked_settles.proofs.FreshPromise.{lists_all}
 use Rattle.std.specs.Fmt.{decimal}
-
--- what all pass, one of them passes
-pub passes_inside : {X : Type 0} (p : X → Bool) (front back : List X) (x : X) → list_all p (front ++ x ∷ back) ≡ true → (list_all p front ≡ true) × (p x ≡ true)
-passes_inside p front back x is =
-    let parts = and_parts (list_all p front) (list_all p (x ∷ back)) (sym (list_all-append p front (x ∷ back)) ∙ is) in
-    (parts.0, (and_parts (p x) (list_all p back) parts.1).0)
+use Rattle.worked_settles.proofs.Passes.{passes_inside}
+use Rattle.worked_settles.proofs.Digits.{digit_one, digit_two}
 
 -- an answer behind others is one of all
 answered_behind : (one : Answered) (front back : List Answered) → AmongAnswers one back → AmongAnswers one (front ++ back)
@@ -104,20 +96,13 @@ no_map members user told ends =
     let never : Some (Say 2 (codes "UIDL")) ≡ Some (Moves (Maps user)) = ap (λ (l : List (List ℕ)). tape_order (get_or l 1 [])) last ∙ ends.ask in
     cc
 
--- one digit
-pub one : decimal 1 ≡ codes "1"
-one = decimal_digit 1 (omega arith)
-
-pub two : decimal 2 ≡ codes "2"
-two = decimal_digit 2 (omega arith)
-
 -- the lines of the reply, where digits are spelt so
 abbrev lines_with : List ℕ → List ℕ → List (List ℕ)
 lines_with d e =
     codes "+OK unique ids" ∷ (d ++ codes " " ++ (d ++ 46 ∷ [] ++ d ++ 46 ∷ [] ++ d)) ∷ (e ++ codes " " ++ (d ++ 46 ∷ [] ++ d ++ 46 ∷ [] ++ e)) ∷ codes "." ∷ []
 
 shows_both : ids_reply right_items ≡ codes "+OK unique ids" ∷ codes "1 1.1.1" ∷ codes "2 1.1.2" ∷ codes "." ∷ []
-shows_both = ap (λ (d : List ℕ). lines_with d (decimal 2)) one ∙ ap (lines_with (codes "1")) two
+shows_both = ap (λ (d : List ℕ). lines_with d (decimal 2)) digit_one ∙ ap (lines_with (codes "1")) digit_two
 
 pub fresh_tape_is_met : FreshTapeIsMet
 fresh_tape_is_met = record {

@@ -1,5 +1,5 @@
 -- What is promised of the freshly ended tape: its listing is what stands.
-use Rattle.std.proofs.Common.{◌≡◌, ℕ, List, [], ◌∷◌, ◌++◌, length, get_or, map, flat_map, Option, Some, None, Result, Ok, Err, refl, sym, ap, ◌∙◌, subst, arith, codes}
+use Rattle.std.proofs.Common.{◌≡◌, ℕ, List, [], ◌∷◌, get_or, map, flat_map, Option, Some, Result, Ok, refl, sym, ap, ◌∙◌, subst, codes}
 use Rattle.mail_model.specs.Names.{lower}
 use Rattle.mail_model.specs.Pop.{Command, Fault, pop_command_of}
 use Rattle.mail_model.specs.Pop.Command.{User}
@@ -7,7 +7,6 @@ use Rattle.mail_model.specs.PopReplies.{Item}
 use Rattle.mail_model.specs.Record.{Record}
 use Rattle.mail_model.specs.Tape.{Order, tape_order}
 use Rattle.mail_model.specs.Tape.Order.{Say}
-use Rattle.session_model.specs.Acts.{Act}
 use Rattle.session_model.specs.Talk.{Exchange}
 use Rattle.session_model.specs.Sessions.{Session, session_at}
 use Rattle.standing_model.specs.Standing.{AreStanding}

@@ -1,47 +1,34 @@
 -- The freshly ended tape is a run, with any listing.
-use Rattle.std.proofs.Common.{◌≡◌, ◌≢◌, ◌+◌, ◌≤◌, ℕ, zero, suc, Bool, List, [], ◌∷◌, ◌++◌, map, flat_map, Option, Some, None, refl, sym, ap, ◌∙◌, subst, arith, codes, append_assoc, append-nil, slice_get}
-use Rattle.std.specs.Prelude.{if◌then◌else◌}
+use Rattle.std.proofs.Common.{◌≡◌, ℕ, List, [], ◌∷◌, ◌++◌, flat_map, Some, refl, codes}
 use Rattle.mail_model.specs.Lines.{sent_line}
-use Rattle.mail_model.specs.Maildrop.{entered_text, wrong_text}
-use Rattle.mail_model.specs.Maildrop.Given.{BySecret}
-use Rattle.mail_model.specs.Maildrop.LineOutcome.{Answered, AsksLogin}
-use Rattle.mail_model.specs.Plan.{Plan}
-use Rattle.mail_model.specs.PopReplies.{Item, ready_text, one_line, listed_slots}
-use Rattle.mail_model.specs.Session.{silent}
-use Rattle.mail_model.specs.Session.Unit.{Line}
+use Rattle.mail_model.specs.PopReplies.{one_line}
 use Rattle.mail_model.specs.Site.{nth_id}
 use Rattle.mail_model.specs.Smtp.{greeting_text, helo_text, closing_text, stored_text}
-use Rattle.mail_model.specs.Tape.{Protocol, tape_order}
-use Rattle.mail_model.specs.Tape.Protocol.{Smtp, Pop}
-use Rattle.mail_model.specs.Tape.Order.{Open, Moves}
-use Rattle.mail_model.specs.Tape.ClusterOrder.{Post, Flow, Settle}
-use Rattle.mail_model.specs.Transcript.{Entry, said_lines, closed_event}
+use Rattle.mail_model.specs.Tape.{tape_order}
+use Rattle.mail_model.specs.Tape.Protocol.{Smtp}
+use Rattle.mail_model.specs.Tape.Order.{Moves}
+use Rattle.mail_model.specs.Tape.ClusterOrder.{Post}
+use Rattle.mail_model.specs.Transcript.{Entry, closed_event}
 use Rattle.mail_model.specs.Transcript.Entry.{Said}
-use Rattle.mail_model.proofs.Sessions.{by_number}
 use Rattle.session_model.specs.Calls.{unstored_text}
 use Rattle.session_model.specs.Calls.Call.{Deliver}
-use Rattle.session_model.specs.Calls.Answer.{Stored, Listed, Failed}
+use Rattle.session_model.specs.Calls.Answer.{Stored, Failed}
 use Rattle.session_model.specs.Events.{event_entries}
-use Rattle.session_model.specs.Events.ClusterEvent.{WasHeard, HasFlowed, HasSettled}
-use Rattle.session_model.specs.Talk.{TalkState, Exchange, Lead, IsLed, lead_of, line_lead, stands, stands_by}
-use Rattle.session_model.specs.Talk.TalkState.{Mailing, Entering, Reading}
-use Rattle.session_model.specs.Talk.Lead.{Asks}
-use Rattle.session_model.specs.Talk.Standing.{Hearing, Waiting}
-use Rattle.session_model.specs.Moves.{with_answer}
-use Rattle.session_model.specs.Sessions.{Session, session_at}
-use Rattle.session_model.specs.Acts.{Act, opened_session}
+use Rattle.session_model.specs.Events.ClusterEvent.{WasHeard}
+use Rattle.session_model.specs.Talk.{Exchange}
+use Rattle.session_model.specs.Talk.TalkState.{Mailing}
+use Rattle.session_model.specs.Talk.Standing.{Hearing}
+use Rattle.session_model.specs.Sessions.{Session}
+use Rattle.session_model.specs.Acts.{Act}
 use Rattle.session_model.specs.Acts.Act.{Opens, Does, Makes}
 use Rattle.session_model.specs.Acts.Deed.{IsGivenUp}
-use Rattle.session_model.specs.Turns.{Waits}
-use Rattle.session_model.specs.Turns.Turn.{Asking}
 use Rattle.session_model.specs.Run.{IsHandled, AreHandled}
 use Rattle.worked_sessions.specs.OneMessage.{greeted, small_mail, waiting, at_once, said_once, at_open, at_helo}
 use Rattle.worked_sessions.specs.ThreeNodes.{heard_in_vain}
-use Rattle.worked_sessions.proofs.Lines.{whole_line, has_alice, idle_line}
-use Rattle.worked_settles.specs.FreshTape.{worked_plan, message_words, message_lines, message_acts, message_talk, told_lines, told_acts, tells_stored, teller, login, passing, ids_reply, asking, reader, reader_acts, fresh_lines, fresh_acts, fresh_entries, fresh_sessions}
-use Rattle.worked_settles.proofs.Lines.{IsPlace, nobody, answered, asks, moved_in_vain, moved_on, moved, gives_up, hears_on, handled_more}
+use Rattle.worked_sessions.proofs.Lines.{whole_line, idle_line}
+use Rattle.worked_settles.specs.FreshTape.{worked_plan, message_words, message_lines, message_acts, message_talk, told_lines, told_acts, tells_stored, teller}
+use Rattle.worked_settles.proofs.Lines.{answered, moved_in_vain, moved_on, gives_up, hears_on, handled_more}
 use Rattle.worked_settles.proofs.Messages.{alone, message_outputs, waits_after, tells, opens, helo}
-use Rattle.fresh_sessions.specs.Kept.{IsRun}
 
 -- what session 1 was fed, and its exchanges, before the first message, behind it, and behind the second
 abbrev pub fed_0 : List ℕ

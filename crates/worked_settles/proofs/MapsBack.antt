@@ -1,24 +1,23 @@
 -- Whatever acts led to the transcript of the tape that ends in a map: it ends in the map that the transcript tells.
-use Rattle.std.proofs.Common.{◌≡◌, inl, inr, ◌+◌, ◌<◌, ℕ, zero, suc, Bool, true, false, List, [], ◌∷◌, ◌++◌, length, get_or, take, flat_map, Option, Some, None, refl, sym, ap, ap₂, ◌∙◌, subst, arith, codes, append-nil, drop}
+use Rattle.std.proofs.Common.{◌≡◌, inl, inr, ◌+◌, ◌<◌, ℕ, Bool, true, List, [], ◌∷◌, ◌++◌, length, get_or, take, flat_map, Some, None, refl, sym, ap, ap₂, ◌∙◌, subst, arith, codes, drop}
 use Rattle.std.specs.Fmt.{decimal}
 use Rattle.std.specs.List.{list_all}
 use Rattle.std.proofs.lemmas.Fmt.{decimal_digit}
 use Rattle.mail_model.specs.PopReplies.{one_line}
 use Rattle.mail_model.specs.Record.{Record}
 use Rattle.mail_model.specs.Smtp.{greeting_text, helo_text, closing_text, stored_text}
-use Rattle.mail_model.specs.Tape.{tape_order}
 use Rattle.mail_model.specs.Tape.ClusterOrder.{Settle, Maps}
-use Rattle.mail_model.specs.Transcript.{Entry, said_lines, closed_event, all_of}
+use Rattle.mail_model.specs.Transcript.{Entry, said_lines, all_of}
 use Rattle.mail_model.specs.Transcript.Entry.{Event}
 use Rattle.object_model.specs.Lists.{Among}
 use Rattle.object_model.proofs.Lists.{among_behind}
 use Rattle.session_model.specs.Acts.{Act}
 use Rattle.session_model.specs.Acts.Act.{Makes}
 use Rattle.session_model.specs.Events.{ClusterEvent, event_entries, node_words, maps_text}
-use Rattle.session_model.specs.Events.ClusterEvent.{WasHeard, HasMapped, HasSettled}
+use Rattle.session_model.specs.Events.ClusterEvent.{HasMapped, HasSettled}
 use Rattle.session_model.specs.Readings.{views}
 use Rattle.session_model.specs.Run.{AreHandled}
-use Rattle.session_model.specs.Sessions.{Session, IsSession}
+use Rattle.session_model.specs.Sessions.{IsSession}
 use Rattle.session_model.specs.Turns.{turn_after_event}
 use Rattle.standing_model.specs.Standing.{NamesFragments, MembersAgree}
 use Rattle.fresh_sessions.specs.Kept.{IsRun}
@@ -26,16 +25,17 @@ use Rattle.fresh_sessions.specs.Tapes.{EndsInMaps, IsSettledBehind}
 use Rattle.worked_settles.specs.FreshTape.{worked_plan, three_members, message_entries}
 use Rattle.worked_settles.specs.MapsTape.{Told, stored_lines, stored_acts, maps_lines, maps_entries, storer}
 use Rattle.worked_settles.specs.WrongMaps.{RefusesMap}
-use Rattle.worked_settles.proofs.Behind.{IsMoved, moved_line}
-use Rattle.worked_settles.proofs.Calm.{is_calm, both_pass}
+use Rattle.worked_settles.proofs.Behind.{moved_line}
+use Rattle.worked_settles.proofs.Calm.{is_calm}
 use Rattle.worked_settles.proofs.Ended.{quit, all_ended}
-use Rattle.worked_settles.proofs.FreshOwes.{one, two}
+use Rattle.worked_settles.proofs.Digits.{digit_one, digit_two}
 use Rattle.worked_settles.proofs.MapsRun.{stored_outputs, stored_run}
 use Rattle.worked_settles.proofs.Settled.{HasSettledBehind, is_other, maps_event, settled_behind}
 use Rattle.worked_settles.proofs.Shown.{shows}
 use Rattle.worked_settles.proofs.Standing.{alice}
 use Rattle.std.specs.Bool.{⊤}
 use Rattle.session_model.specs.Lives.{life_after}
+use Rattle.worked_settles.proofs.Passes.{both_pass}
 
 -- what is written before the settle, where digits are spelt so
 abbrev stored_with : List ℕ → List ℕ → List Entry
@@ -47,7 +47,7 @@ abbrev stored_entries : List Entry
 stored_entries = stored_with (decimal 1) (decimal 2)
 
 stored_pass : (p : Entry → Bool) → list_all p (stored_with (codes "1") (codes "2")) ≡ true → list_all p stored_entries ≡ true
-stored_pass p is = ap (list_all p) (ap₂ stored_with one two) ∙ is
+stored_pass p is = ap (list_all p) (ap₂ stored_with digit_one digit_two) ∙ is
 
 -- the worked session, before the settle
 storer_is : IsSession worked_plan stored_lines stored_entries 1 storer

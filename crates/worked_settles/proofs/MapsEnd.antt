@@ -1,8 +1,6 @@
 -- What is promised of the tape that ends in a map: the map names what the disks have, and members agree.
-use Rattle.std.proofs.Common.{◌≡◌, ◌↔◌, ◌<◌, inl, inr, ℕ, Bool, true, false, List, [], ◌∷◌, ◌++◌, get_or, map, flat_map, if◌then◌else◌, All, AllPairs, Option, Some, None, refl, sym, ap, ◌∙◌, subst, arith, codes, append_assoc, ap₂}
+use Rattle.std.proofs.Common.{◌≡◌, ◌↔◌, ◌<◌, inl, inr, ℕ, Bool, true, false, List, [], ◌∷◌, ◌++◌, get_or, flat_map, if◌then◌else◌, Some, None, refl, sym, ap, ◌∙◌, subst, arith, codes, append_assoc, ap₂}
 use Rattle.std.specs.List.{list_all}
-use Rattle.std.proofs.lemmas.Bool.{cases_eq}
-use Rattle.std.proofs.lemmas.Fmt.{decimal_digit}
 use Rattle.std.proofs.lemmas.List.Elements.{All-nil, All-cons}
 use Rattle.std.proofs.lemmas.List.Kept.{AllPairs-cons}
 use Rattle.std.proofs.lemmas.Option.{none-some}
@@ -12,9 +10,9 @@ use Rattle.mail_model.specs.Identity.Value.{Here}
 use Rattle.mail_model.specs.Record.{Record}
 use Rattle.mail_model.specs.Record.Record.{Boot}
 use Rattle.mail_model.specs.Site.{nth_id, nth_stamp}
-use Rattle.mail_model.specs.Tape.{Order, tape_order}
+use Rattle.mail_model.specs.Tape.{tape_order}
 use Rattle.mail_model.specs.Tape.Order.{Say, Moves}
-use Rattle.mail_model.specs.Tape.Protocol.{Smtp, Pop}
+use Rattle.mail_model.specs.Tape.Protocol.{Pop}
 use Rattle.mail_model.specs.Tape.ClusterOrder.{Settle, Maps}
 use Rattle.object_model.specs.Keys.{is_same_key}
 use Rattle.object_model.specs.Lists.{Among}
@@ -25,16 +23,16 @@ use Rattle.session_model.specs.Acts.Act.{Opens, Makes}
 use Rattle.session_model.specs.Events.{event_entries, node_words}
 use Rattle.session_model.specs.Events.ClusterEvent.{HasSettled, HasMapped}
 use Rattle.session_model.proofs.Cuts.{one_end}
-use Rattle.standing_model.specs.Standing.{OnDisk, HasFragment, NamesFragments, SaysAlike, MembersAgree, is_here_held}
-use Rattle.fresh_sessions.specs.Acts.{ShowsMembers, OwesSettled}
-use Rattle.fresh_sessions.specs.Tapes.{EndsInMaps, FreshListsAll, SettledAgrees}
+use Rattle.standing_model.specs.Standing.{OnDisk, HasFragment, NamesFragments, SaysAlike, MembersAgree}
+use Rattle.fresh_sessions.specs.Acts.{OwesSettled}
+use Rattle.fresh_sessions.specs.Tapes.{FreshListsAll, SettledAgrees}
 use Rattle.worked_settles.specs.FreshTape.{worked_plan, three_members, filed}
 use Rattle.worked_settles.specs.MapsTape.{MapsTapeIsMet, Told, stored_lines, maps_lines, stored_acts, maps_acts, storer, maps_disks, right_map}
 use Rattle.worked_settles.proofs.Formed.{is_quiet, none_formed, quiet_front, opening_members}
-use Rattle.worked_settles.proofs.FreshOwes.{passes_inside, one, two}
+use Rattle.worked_settles.proofs.Passes.{passes_inside}
+use Rattle.worked_settles.proofs.Digits.{digit_one, digit_two}
 use Rattle.worked_settles.proofs.MapsRun.{is_maps_run}
 use Rattle.worked_settles.proofs.Standing.{alice}
-use Rattle.std.specs.Fmt.{decimal}
 use Rattle.mail_model.specs.Transcript.{Entry}
 use Rattle.mail_model.specs.Transcript.Entry.{Event}
 
@@ -184,13 +182,13 @@ module _ (told : Told) where
 
 -- the line of the transcript
 words : node_words (1 ∷ 2 ∷ []) ≡ codes " 1 2"
-words = ap₂ (λ (d e : List ℕ). (codes " " ++ d) ++ ((codes " " ++ e) ++ [])) one two
+words = ap₂ (λ (d e : List ℕ). (codes " " ++ d) ++ ((codes " " ++ e) ++ [])) digit_one digit_two
 
 abbrev line_with : List ℕ → List ℕ → List Entry
 line_with d named = Event (codes "maps " ++ codes "alice" ++ codes " at " ++ d ++ codes ":" ++ named) ∷ []
 
 shows_right : event_entries (HasMapped alice right_map) ≡ Event (codes "maps alice at 1: 1 2") ∷ []
-shows_right = ap₂ line_with one words
+shows_right = ap₂ line_with digit_one words
 
 pub maps_tape_is_met : MapsTapeIsMet
 maps_tape_is_met = record {

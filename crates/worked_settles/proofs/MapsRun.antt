@@ -1,5 +1,5 @@
 -- The tape that ends in a map is a run, with any map.
-use Rattle.std.proofs.Common.{◌≡◌, inl, inr, ℕ, Bool, true, false, List, [], ◌∷◌, ◌++◌, flat_map, Option, Some, refl, sym, subst, codes, append-nil, ap, not}
+use Rattle.std.proofs.Common.{◌≡◌, ℕ, Bool, true, List, [], ◌∷◌, ◌++◌, flat_map, refl, sym, subst, codes, append-nil, ap, not}
 use Rattle.mail_model.specs.Lines.{sent_line}
 use Rattle.mail_model.specs.PopReplies.{one_line}
 use Rattle.mail_model.specs.Site.{nth_id}
@@ -22,7 +22,7 @@ use Rattle.fresh_sessions.specs.Acts.ShowsMembers.{AtOpening}
 use Rattle.worked_sessions.specs.OneMessage.{greeted, small_mail, waiting, at_once, said_once, at_open, at_helo}
 use Rattle.worked_sessions.specs.ThreeNodes.{heard_in_vain}
 use Rattle.worked_sessions.proofs.Lines.{whole_line, idle_line, has_alice}
-use Rattle.worked_settles.specs.FreshTape.{worked_plan, three_members, message_words, message_lines, message_acts, message_talk, tells_stored}
+use Rattle.worked_settles.specs.FreshTape.{worked_plan, message_words, message_lines, message_acts, message_talk, tells_stored}
 use Rattle.worked_settles.specs.MapsTape.{IsMapsRun, Told, stored_lines, maps_lines, stored_acts, maps_acts, maps_entries, storer}
 use Rattle.worked_settles.proofs.Lines.{handled_more, answered, moved_in_vain, moved_on, moved, hears_on}
 use Rattle.worked_settles.proofs.Messages.{alone, message_outputs, waits_after, opens, helo, tells}

@@ -1,8 +1,7 @@
 -- The lines that tell a message, by a session at node 1 that was fed and has had anything before.
-use Rattle.std.proofs.Common.{◌≡◌, ◌≢◌, ◌+◌, ◌≤◌, ℕ, zero, suc, Bool, List, [], ◌∷◌, ◌++◌, flat_map, Option, Some, None, refl, sym, ap, ◌∙◌, subst, arith, codes, append_assoc, slice_get}
+use Rattle.std.proofs.Common.{◌≡◌, ◌≢◌, ℕ, zero, suc, Bool, List, [], ◌∷◌, ◌++◌, flat_map, refl, sym, ap, subst, arith, codes, append_assoc}
 use Rattle.mail_model.specs.Lines.{sent_line}
-use Rattle.mail_model.specs.Session.{Told, silent}
-use Rattle.mail_model.specs.Told.{HasNoUnit}
+use Rattle.mail_model.specs.Session.{silent}
 use Rattle.mail_model.specs.Tape.Protocol.{Smtp}
 use Rattle.mail_model.specs.Transcript.{Entry}
 use Rattle.mail_model.specs.Transcript.Entry.{Said}

@@ -1,5 +1,5 @@
 -- Whatever the reader of the freshly ended tape is told, the tape is run.
-use Rattle.std.proofs.Common.{◌≡◌, ◌≢◌, ◌+◌, ◌≤◌, ℕ, zero, suc, Bool, List, [], ◌∷◌, ◌++◌, map, flat_map, if◌then◌else◌, Option, Some, None, refl, sym, ap, ◌∙◌, subst, arith, codes, append-nil}
+use Rattle.std.proofs.Common.{◌≡◌, ◌≢◌, ℕ, zero, suc, Bool, List, [], ◌∷◌, ◌++◌, flat_map, if◌then◌else◌, Some, None, refl, sym, ap, subst, arith, codes, append-nil}
 use Rattle.mail_model.specs.Lines.{sent_line}
 use Rattle.mail_model.specs.Maildrop.{entered_text, wrong_text}
 use Rattle.mail_model.specs.Maildrop.Given.{BySecret}
@@ -15,7 +15,7 @@ use Rattle.mail_model.proofs.Sessions.{by_number}
 use Rattle.session_model.specs.Calls.Answer.{Listed}
 use Rattle.session_model.specs.Events.{event_entries}
 use Rattle.session_model.specs.Events.ClusterEvent.{HasFlowed, HasSettled}
-use Rattle.session_model.specs.Talk.{TalkState, Exchange, Standing, Lead, IsLed, lead_of, line_lead, stands}
+use Rattle.session_model.specs.Talk.{Lead, IsLed, lead_of, line_lead, stands}
 use Rattle.session_model.specs.Talk.TalkState.{Entering, Reading}
 use Rattle.session_model.specs.Talk.Lead.{Asks}
 use Rattle.session_model.specs.Talk.Standing.{Hearing, Waiting}

@@ -1,9 +1,9 @@
 -- A run whose entries tell once that the cluster has settled, with no fault, and in which no session was open then: it has settled behind these lines.
-use Rattle.std.proofs.Common.{◌≡◌, ℕ, Bool, true, false, not, ◌&&◌, List, [], ◌∷◌, ◌++◌, flat_map, Option, Some, None, refl, sym, ap, ap₂, ◌∙◌, subst, codes, append_assoc, append-nil}
+use Rattle.std.proofs.Common.{◌≡◌, ℕ, Bool, true, not, List, [], ◌∷◌, ◌++◌, flat_map, Option, Some, refl, sym, ap, ◌∙◌, subst, codes, append_assoc, append-nil}
 use Rattle.std.specs.List.{list_all}
 use Rattle.std.proofs.lemmas.List.Concat.{flat_map-append}
 use Rattle.mail_model.specs.Plan.{Plan}
-use Rattle.mail_model.specs.Tape.{ClusterOrder, tape_order}
+use Rattle.mail_model.specs.Tape.{tape_order}
 use Rattle.mail_model.specs.Tape.Order.{Moves}
 use Rattle.mail_model.specs.Tape.ClusterOrder.{Settle, Maps}
 use Rattle.mail_model.specs.Transcript.{Entry, all_of}
@@ -14,15 +14,15 @@ use Rattle.session_model.specs.Events.ClusterEvent.{WentDown, CameUp, WasLost, W
 use Rattle.session_model.specs.Acts.{Act}
 use Rattle.session_model.specs.Acts.Act.{Makes}
 use Rattle.session_model.specs.Turns.{Waits, turn_after_event}
-use Rattle.session_model.specs.Run.{IsHandled, AreHandled, count_on}
+use Rattle.session_model.specs.Run.{AreHandled, count_on}
 use Rattle.fresh_sessions.specs.Acts.{nodes_to}
 use Rattle.fresh_sessions.specs.Acts.ShowsMembers.{AtOpening}
 use Rattle.fresh_sessions.specs.Tapes.{IsSettledBehind}
 use Rattle.fresh_sessions.specs.Kept.{IsRun}
 use Rattle.worked_settles.proofs.Formed.{none_formed}
-use Rattle.worked_settles.proofs.FreshOwes.{passes_inside}
+use Rattle.worked_settles.proofs.Passes.{passes_both}
 use Rattle.worked_settles.proofs.Shown.{shows}
-use Rattle.worked_settles.proofs.Calm.{begins, is_calm, passes_both, calm_run, quiet_run, keeps_order}
+use Rattle.worked_settles.proofs.Calm.{begins, is_calm, calm_run, quiet_run, keeps_order}
 use Rattle.worked_settles.proofs.Behind.{AreParted, IsMoved, part_handled, cut_once, moved_line}
 
 -- the entry does not tell that the cluster has settled

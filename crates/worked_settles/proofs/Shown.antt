@@ -1,8 +1,8 @@
 -- What a run shows of its sessions.
-use Rattle.std.proofs.Common.{◌≡◌, ℕ, List, [], ◌++◌, map, flat_map, Some, refl, sym, ap, ◌∙◌, subst, append-nil}
+use Rattle.std.proofs.Common.{◌≡◌, ℕ, List, [], ◌++◌, flat_map, refl, sym, subst, append-nil}
 use Rattle.mail_model.specs.Plan.{Plan}
 use Rattle.mail_model.specs.Transcript.{Entry, all_of}
-use Rattle.session_model.specs.Sessions.{Session, AreAnswered, session_at}
+use Rattle.session_model.specs.Sessions.{Session, AreAnswered}
 use Rattle.session_model.specs.Acts.{Act}
 use Rattle.session_model.specs.Run.{AreHandled, IsDriven, made_by}
 use Rattle.session_model.specs.Run.Stop.{BehindLine, Denied, SinkFailed}

@@ -1,22 +1,19 @@
 -- The promise of a fresh listing is false of wrong listings.
-use Rattle.std.proofs.Common.{◌≡◌, ◌≢◌, ◌⊎◌, inl, inr, ⊎_elim, ◌+◌, ℕ, zero, suc, Bool, true, false, List, [], ◌∷◌, ◌++◌, length, drop, map, Option, Some, None, refl, sym, ap, ap₂, ◌∙◌, subst, arith, codes, length-append, get_or}
+use Rattle.std.proofs.Common.{◌≡◌, ◌≢◌, inl, inr, ⊎_elim, ◌+◌, ℕ, true, false, List, [], ◌∷◌, ◌++◌, length, map, refl, sym, ap, ap₂, ◌∙◌, subst, arith, codes, length-append, get_or}
 use Rattle.std.specs.Fmt.{decimal}
 use Rattle.std.specs.Ordering.{is_lt}
-use Rattle.std.proofs.lemmas.Option.{none-some}
 use Rattle.mail_model.specs.Identity.{Id, Stamp, id_text}
-use Rattle.mail_model.specs.Names.{lower}
 use Rattle.mail_model.specs.PopReplies.{Item, id_line, lines_from, last_line, listed_slots}
 use Rattle.mail_model.specs.Record.{Record}
-use Rattle.mail_model.specs.Record.Record.{Boot, Stated}
 use Rattle.mail_model.specs.Site.{nth_id, nth_stamp}
 use Rattle.object_model.specs.Lists.{Among}
-use Rattle.standing_model.specs.Standing.{OnDisk, HoldsCopy, CopyStands, IsStampOf, AreStanding, stamp_cmp}
+use Rattle.standing_model.specs.Standing.{OnDisk, HoldsCopy, IsStampOf, AreStanding, stamp_cmp}
 use Rattle.worked_settles.specs.FreshTape.{three_members, fresh_disks, nth_octets, ids_reply, item, right_items}
 use Rattle.worked_settles.specs.WrongListings.{RefusesListing, RefusesMissing, RefusesTwice, RefusesOrder, RefusesDeleted, gone_disks}
-use Rattle.worked_settles.proofs.FreshOwes.{one, two}
+use Rattle.worked_settles.proofs.Digits.{digit_one, digit_two}
 use Rattle.worked_settles.proofs.Nodes.{by_node, filed_ids, held_is_filed}
 use Rattle.worked_settles.proofs.Standing.{IsEither, alice, differ, first_records, second_records, third_records, second_stands, first_stamp, second_stamp}
-use Rattle.worked_settles.proofs.FreshBack.{IsReader, reader_back}
+use Rattle.worked_settles.proofs.FreshBack.{reader_back}
 use Rattle.std.specs.Prelude.{slice_index_or}
 
 abbrev ids_of : List Item → List Id
@@ -25,8 +22,8 @@ ids_of items = map (λ (item : Item). item.id) items
 -- both ids have another text
 texts_differ : id_text (nth_id 1) ≢ id_text (nth_id 2)
 texts_differ same =
-    let first : id_text (nth_id 1) ≡ codes "1.1.1" = ap (λ (d : List ℕ). d ++ 46 ∷ [] ++ d ++ 46 ∷ [] ++ d) one in
-    let second : id_text (nth_id 2) ≡ codes "1.1.2" = ap₂ (λ (d e : List ℕ). d ++ 46 ∷ [] ++ d ++ 46 ∷ [] ++ e) one two in
+    let first : id_text (nth_id 1) ≡ codes "1.1.1" = ap (λ (d : List ℕ). d ++ 46 ∷ [] ++ d ++ 46 ∷ [] ++ d) digit_one in
+    let second : id_text (nth_id 2) ≡ codes "1.1.2" = ap₂ (λ (d e : List ℕ). d ++ 46 ∷ [] ++ d ++ 46 ∷ [] ++ e) digit_one digit_two in
     let never : codes "1.1.1" ≡ codes "1.1.2" = sym first ∙ same ∙ second in
     omega (arith, ap (λ (l : List ℕ). get_or l 4 0) never)
 

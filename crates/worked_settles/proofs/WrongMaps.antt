@@ -1,5 +1,5 @@
 -- The promise of a right map is false of wrong maps, and where members disagree.
-use Rattle.std.proofs.Common.{◌≡◌, ◌↔◌, ◌<◌, inl, inr, ℕ, zero, suc, Bool, true, false, List, [], ◌∷◌, ◌++◌, AllPairs, Option, Some, None, refl, sym, ap, ◌∙◌, subst, arith, codes}
+use Rattle.std.proofs.Common.{◌≡◌, ◌↔◌, ◌<◌, inl, inr, ℕ, List, [], ◌∷◌, AllPairs, Some, None, refl, sym, ap, subst, arith}
 use Rattle.std.proofs.lemmas.List.Elements.{All-nil}
 use Rattle.std.proofs.lemmas.List.Kept.{AllPairs-cons}
 use Rattle.std.proofs.lemmas.Option.{none-some}
@@ -8,7 +8,6 @@ use Rattle.mail_model.specs.Record.{Record}
 use Rattle.mail_model.specs.Record.Record.{Boot}
 use Rattle.mail_model.specs.Site.{nth_id}
 use Rattle.object_model.specs.Lists.{Among}
-use Rattle.object_model.specs.Said.{said}
 use Rattle.standing_model.specs.Standing.{OnDisk, HasFragment, NamesFragments, SaysAlike, MembersAgree}
 use Rattle.worked_settles.specs.FreshTape.{three_members}
 use Rattle.worked_settles.specs.MapsTape.{maps_disks}

@@ -1,12 +1,12 @@
 -- Listings that a new session behind a settled epoch must not be shown. The tape is the one that is freshly ended; its transcript shows another listing, or the disks
 -- say that a message of it is gone.
-use Rattle.std.specs.Prelude.{ℕ, List, [], ◌∷◌, ◌++◌, codes}
+use Rattle.std.specs.Prelude.{List, [], ◌∷◌, ◌++◌, codes}
 use Rattle.mail_model.specs.Identity.Key.{Message}
 use Rattle.mail_model.specs.Identity.Value.{Gone}
 use Rattle.mail_model.specs.PopReplies.{Item}
 use Rattle.mail_model.specs.Record.{Record}
 use Rattle.mail_model.specs.Record.Record.{Boot, Stated}
-use Rattle.mail_model.specs.Site.{nth_id, nth_stamp}
+use Rattle.mail_model.specs.Site.{nth_id}
 use Rattle.session_model.specs.Acts.{Act}
 use Rattle.session_model.specs.Sessions.{Session, AreSessions}
 use Rattle.fresh_sessions.specs.Kept.{IsRun}

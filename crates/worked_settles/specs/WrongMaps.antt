@@ -1,5 +1,5 @@
 -- Mail maps that a settled cluster must not tell, and disks that its members must not have.
-use Rattle.std.specs.Prelude.{ℕ, List, [], ◌∷◌, Some, None, codes}
+use Rattle.std.specs.Prelude.{List, [], ◌∷◌, Some, None, codes}
 use Rattle.mail_model.specs.Record.{Record}
 use Rattle.mail_model.specs.Record.Record.{Boot}
 use Rattle.session_model.specs.Acts.{Act}
