@@ -79,7 +79,6 @@ one_ended s ended = (ap (λ (standing : Standing). (if is_on standing then 1 els
 
 module _ (plan : Plan) (lines : List (List ℕ)) (entries : List Entry) (worked : Session) (worked_is : IsSession plan lines entries 1 worked) (smtp : worked.protocol ≡ Smtp)
     (kinds : opened lines ≡ kind_of worked ∷ []) (reply : List (List ℕ)) (said_quit : Among (quit, reply) (views worked.whole)) where
-
   pub all_ended : (sessions : List Session) → AreSessions plan lines entries sessions → AllEnded sessions
   all_ended [] are = let never : kind_of worked ∷ [] ≡ [] = sym kinds ∙ are.kinds in cc
   all_ended (s ∷ t ∷ more) are = let never : kind_of worked ∷ [] ≡ kind_of s ∷ kind_of t ∷ map kind_of more = sym kinds ∙ are.kinds in cc

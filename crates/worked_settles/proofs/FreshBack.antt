@@ -122,9 +122,14 @@ module _ (items : List Item) where
         few : length (octets_of s.session.whole) ≤ length (seen_octets (views s.session.whole))
         few =
             let cut = chain_octets worked_plan s.session.node _ s.session.octets (exchanges_of s.session) s.is.talk.before s.session.rest s.is.talk.goes in
-            omega (arith, ap length (sym fed ∙ cut), ap (λ (v : List (Unit × List (List ℕ))). length (seen_octets v)) same_views,
-            length-append (octets_of (exchanges_of s.session)) s.session.rest, ap length (flat_map-append (λ (x : Exchange). unit_octets x.unit) s.session.whole s.session.others),
-            length-append (octets_of s.session.whole) (octets_of s.session.others))
+            omega (
+              arith,
+              ap length (sym fed ∙ cut),
+              ap (λ (v : List (Unit × List (List ℕ))). length (seen_octets v)) same_views,
+              length-append (octets_of (exchanges_of s.session)) s.session.rest,
+              ap length (flat_map-append (λ (x : Exchange). unit_octets x.unit) s.session.whole s.session.others),
+              length-append (octets_of s.session.whole) (octets_of s.session.others),
+            )
 
         parts : AreThree s.session.whole (Line (codes "USER alice"), one_line (codes "+OK send PASS")) (Line (codes "PASS tanstaaf"), one_line entered_text) (Line (codes "UIDL"), ids_reply items)
         parts = three s.session.whole _ _ _ (all_seen s.session.whole few ∙ same_views)

@@ -28,9 +28,12 @@ pub handled_more : (plan : Plan) (been : List Act) (old mid new : List Session) 
     → AreHandled plan been old (front ++ back) (acts ++ more) (outputs ++ others) new
 handled_more plan been old mid new [] back [] more [] others is follow =
     subst (λ (b : List Act). AreHandled plan b old back more others new) (append-nil been) (subst (λ (s : List Session). AreHandled plan (been ++ []) s back more others new) is follow)
-handled_more plan been old mid new (line ∷ front) back (a ∷ acts) more (o ∷ outputs) others (next, is, later) follow =
-    (next, is, handled_more plan (been ++ a) next mid new front back acts more outputs others later
-    (subst (λ (b : List Act). AreHandled plan b mid back more others new) (sym (append_assoc been a (flat_map (λ x. x) acts))) follow))
+handled_more plan been old mid new (line ∷ front) back (a ∷ acts) more (o ∷ outputs) others (next, is, later) follow = (
+  next,
+  is,
+  handled_more plan (been ++ a) next mid new front back acts more outputs others later
+      (subst (λ (b : List Act). AreHandled plan b mid back more others new) (sym (append_assoc been a (flat_map (λ x. x) acts))) follow),
+)
 handled_more plan been old mid new [] back [] more (o ∷ outputs) others is follow = absurd is
 handled_more plan been old mid new [] back (a ∷ acts) more [] others is follow = absurd is
 handled_more plan been old mid new [] back (a ∷ acts) more (o ∷ outputs) others is follow = absurd is

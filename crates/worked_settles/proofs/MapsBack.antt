@@ -23,7 +23,7 @@ use Rattle.standing_model.specs.Standing.{NamesFragments, MembersAgree}
 use Rattle.fresh_sessions.specs.Kept.{IsRun}
 use Rattle.fresh_sessions.specs.Tapes.{EndsInMaps, IsSettledBehind}
 use Rattle.worked_settles.specs.FreshTape.{worked_plan, three_members, message_entries}
-use Rattle.worked_settles.specs.MapsTape.{Told, stored_lines, stored_acts, maps_lines, maps_entries, storer}
+use Rattle.worked_settles.specs.MapsTape.{ToldMap, stored_lines, stored_acts, maps_lines, maps_entries, storer}
 use Rattle.worked_settles.specs.WrongMaps.{RefusesMap}
 use Rattle.worked_settles.proofs.Behind.{moved_line}
 use Rattle.worked_settles.proofs.Calm.{is_calm}
@@ -58,17 +58,17 @@ storer_quits : Among (quit, one_line (closing_text 1)) (views storer.whole)
 storer_quits = among_behind (quit, one_line (closing_text 1)) (views (take 5 storer.whole)) ((quit, one_line (closing_text 1)) ∷ []) (inl refl)
 
 -- a map is no fault, and settles nothing
-calm_map : (told : Told) → list_all is_calm (event_entries (HasMapped alice told)) ≡ true
+calm_map : (told : ToldMap) → list_all is_calm (event_entries (HasMapped alice told)) ≡ true
 calm_map None = refl
 calm_map (Some told) = refl
 
-other_map : (told : Told) → list_all is_other (event_entries (HasMapped alice told)) ≡ true
+other_map : (told : ToldMap) → list_all is_other (event_entries (HasMapped alice told)) ≡ true
 other_map None = refl
 other_map (Some told) = refl
 
 -- What the acts of a run with this transcript tell of the map.
-pub record TellsMap (acts : List (List Act)) (told : Told) : Type 0 where
-  pub other : Told
+pub record TellsMap (acts : List (List Act)) (told : ToldMap) : Type 0 where
+  pub other : ToldMap
   pub ends : EndsInMaps worked_plan maps_lines acts three_members alice other
   pub same : maps_text alice told ≡ maps_text alice other
 
@@ -77,7 +77,7 @@ abbrev text_in : List Entry → List ℕ
 text_in (Event text ∷ entries) = text
 text_in entries = []
 
-module _ (told : Told) (acts : List (List Act)) (run : IsRun worked_plan maps_lines (maps_entries told) acts) where
+module _ (told : ToldMap) (acts : List (List Act)) (run : IsRun worked_plan maps_lines (maps_entries told) acts) where
   back : HasSettledBehind worked_plan stored_lines (codes "maps alice" ∷ []) acts (event_entries (HasMapped alice told))
   back = settled_behind worked_plan stored_lines (codes "maps alice" ∷ []) (codes "settle") stored_entries (event_entries (HasMapped alice told)) acts refl run
       (both_pass is_calm stored_entries (Event (codes "settled") ∷ event_entries (HasMapped alice told)) (stored_pass is_calm refl) (calm_map told))
@@ -118,7 +118,7 @@ module _ (told : Told) (acts : List (List Act)) (run : IsRun worked_plan maps_li
 abbrev pub AreDigits : List ℕ → Type 0
 AreDigits nodes = (n : ℕ) → Among n nodes → n < 10
 
-abbrev pub IsOfDigits : Told → Type 0
+abbrev pub IsOfDigits : ToldMap → Type 0
 IsOfDigits None = ⊤
 IsOfDigits (Some told) = (told.0 < 10) × AreDigits told.1
 
@@ -145,7 +145,7 @@ spelt_same (x ∷ xs) (y ∷ ys) same =
     let later : spelt xs ≡ spelt ys = ap (drop 2) same in
     ap₂ ◌∷◌ first (spelt_same xs ys later)
 
-one_map : (told other : Told) → IsOfDigits told → IsOfDigits other → maps_text alice told ≡ maps_text alice other → told ≡ other
+one_map : (told other : ToldMap) → IsOfDigits told → IsOfDigits other → maps_text alice told ≡ maps_text alice other → told ≡ other
 one_map None None small small_too same = refl
 one_map None (Some other) small small_too same = absurd (omega (arith, ap (λ (l : List ℕ). get_or l 11 0) (same ∙ text_spelt other.0 other.1 small_too.0 small_too.1)))
 one_map (Some told) None small small_too same = absurd (omega (arith, ap (λ (l : List ℕ). get_or l 11 0) (sym (text_spelt told.0 told.1 small.0 small.1) ∙ same)))
@@ -164,7 +164,7 @@ member_digit n (inr (inr (inl is))) = omega (arith, is)
 member_digit n (inr (inr (inr none))) = absurd none
 
 -- where the map is not what the disks have, or members disagree, the promise is false
-pub refuses_map : (disks : List (List Record)) (told : Told) → IsOfDigits told → (NamesFragments disks three_members alice told → MembersAgree disks three_members → ⊥) → RefusesMap disks told
+pub refuses_map : (disks : List (List Record)) (told : ToldMap) → IsOfDigits told → (NamesFragments disks three_members alice told → MembersAgree disks three_members → ⊥) → RefusesMap disks told
 refuses_map disks told small wrong acts run agrees =
     let t = maps_back told acts run in
     let (names, agree) = agrees three_members alice t.other t.ends in

@@ -27,7 +27,7 @@ use Rattle.standing_model.specs.Standing.{OnDisk, HasFragment, NamesFragments, S
 use Rattle.fresh_sessions.specs.Acts.{OwesSettled}
 use Rattle.fresh_sessions.specs.Tapes.{FreshListsAll, SettledAgrees}
 use Rattle.worked_settles.specs.FreshTape.{worked_plan, three_members, filed}
-use Rattle.worked_settles.specs.MapsTape.{MapsTapeIsMet, Told, stored_lines, maps_lines, stored_acts, maps_acts, storer, maps_disks, right_map}
+use Rattle.worked_settles.specs.MapsTape.{MapsTapeIsMet, ToldMap, stored_lines, maps_lines, stored_acts, maps_acts, storer, maps_disks, right_map}
 use Rattle.worked_settles.proofs.Formed.{is_quiet, none_formed, quiet_front, opening_members}
 use Rattle.worked_settles.proofs.Passes.{passes_inside}
 use Rattle.worked_settles.proofs.Digits.{digit_one, digit_two}
@@ -113,7 +113,7 @@ agree a b member member_too key state on target = by a member on b member_too ta
     by a member on b (inr (inr (inr none))) target = absurd none
 
 -- the map that an act tells
-abbrev map_in : Act → Told
+abbrev map_in : Act → ToldMap
 map_in (Makes order (HasMapped user told)) = told
 map_in act = None
 
@@ -122,7 +122,7 @@ abbrev user_in : Act → List ℕ
 user_in (Makes (Maps user) event) = user
 user_in act = []
 
-module _ (told : Told) where
+module _ (told : ToldMap) where
   abbrev acts : List Act
   acts = flat_map (λ a. a) (maps_acts told)
 
@@ -132,14 +132,14 @@ module _ (told : Told) where
   opens_no_reader act = true
 
   -- the last act
-  last_act : (before : List Act) (user : List ℕ) (other : Told) → acts ≡ before ++ Makes Settle HasSettled ∷ Makes (Maps user) (HasMapped user other) ∷ []
+  last_act : (before : List Act) (user : List ℕ) (other : ToldMap) → acts ≡ before ++ Makes Settle HasSettled ∷ Makes (Maps user) (HasMapped user other) ∷ []
       → ◌≡◌ {A = Act} (Makes (Maps alice) (HasMapped alice told)) (Makes (Maps user) (HasMapped user other))
   last_act before user other are = (one_end (flat_map (λ a. a) stored_acts ++ Makes Settle HasSettled ∷ []) (before ++ Makes Settle HasSettled ∷ []) _ _
       (are ∙ sym (append_assoc before (Makes Settle HasSettled ∷ []) (Makes (Maps user) (HasMapped user other) ∷ [])))).1
 
   module _ (disks : List (List Record)) (named : NamesFragments disks three_members alice told) (agreed : MembersAgree disks three_members) where
     -- whoever says that the tape ends in a map says so of these members, of alice, and of what was told
-    moved : (members : List ℕ) (user : List ℕ) (other : Told) → members ≡ three_members → alice ≡ user → told ≡ other → NamesFragments disks members user other × MembersAgree disks members
+    moved : (members : List ℕ) (user : List ℕ) (other : ToldMap) → members ≡ three_members → alice ≡ user → told ≡ other → NamesFragments disks members user other × MembersAgree disks members
     moved members user other all_nodes same_user same_map =
         subst (λ (m : List ℕ). NamesFragments disks m user other × MembersAgree disks m) (sym all_nodes)
         (subst (λ (u : List ℕ). NamesFragments disks three_members u other) same_user (subst (NamesFragments disks three_members alice) same_map named), agreed)
@@ -167,7 +167,7 @@ module _ (told : Told) where
             → list_all opens_no_reader ((before ++ Makes Settle HasSettled ∷ []) ++ Opens Pop node greeting ∷ behind) ≡ true
         opens_none before behind node greeting are = ap (list_all opens_no_reader) (append_assoc before (Makes Settle HasSettled ∷ []) (Opens Pop node greeting ∷ behind) ∙ sym are)
 
-        quiet_before : (before : List Act) (user : List ℕ) (other : Told) → acts ≡ before ++ Makes Settle HasSettled ∷ Makes (Maps user) (HasMapped user other) ∷ [] → list_all is_quiet before ≡ true
+        quiet_before : (before : List Act) (user : List ℕ) (other : ToldMap) → acts ≡ before ++ Makes Settle HasSettled ∷ Makes (Maps user) (HasMapped user other) ∷ [] → list_all is_quiet before ≡ true
         quiet_before before user other are =
             (passes_inside is_quiet before (Makes (Maps user) (HasMapped user other) ∷ []) (Makes Settle HasSettled) (ap (list_all is_quiet) (sym are))).0
 

@@ -23,7 +23,7 @@ use Rattle.worked_sessions.specs.OneMessage.{greeted, small_mail, waiting, at_on
 use Rattle.worked_sessions.specs.ThreeNodes.{heard_in_vain}
 use Rattle.worked_sessions.proofs.Lines.{whole_line, idle_line, has_alice}
 use Rattle.worked_settles.specs.FreshTape.{worked_plan, message_words, message_lines, message_acts, message_talk, tells_stored}
-use Rattle.worked_settles.specs.MapsTape.{IsMapsRun, Told, stored_lines, maps_lines, stored_acts, maps_acts, maps_entries, storer}
+use Rattle.worked_settles.specs.MapsTape.{IsMapsRun, ToldMap, stored_lines, maps_lines, stored_acts, maps_acts, maps_entries, storer}
 use Rattle.worked_settles.proofs.Lines.{handled_more, answered, moved_in_vain, moved_on, moved, hears_on}
 use Rattle.worked_settles.proofs.Messages.{alone, message_outputs, waits_after, opens, helo, tells}
 use Rattle.worked_settles.proofs.FreshRun.{fed_0, had_0, hearing, before_text}
@@ -95,7 +95,7 @@ settles been = moved worked_plan been 1 (λ s. s ∷ []) alone storer (codes "se
 user_of_plan : is_user worked_plan (codes "alice") ≡ true
 user_of_plan = has_alice
 
-module _ (told : Told) where
+module _ (told : ToldMap) where
   maps : (been : List Act) → IsHandled worked_plan been (storer ∷ []) (codes "maps alice") (Makes (Maps (codes "alice")) (HasMapped (codes "alice") told) ∷ [])
       (event_entries (HasMapped (codes "alice") told) ∷ []) (storer ∷ [])
   maps been = moved worked_plan been 1 (λ s. s ∷ []) alone storer (codes "maps alice") (Maps (codes "alice")) (HasMapped (codes "alice") told) refl

@@ -89,7 +89,6 @@ module _ (plan : Plan) (before rest : List (List ℕ)) (settles : List ℕ) (fro
     (calm : list_all is_calm (front ++ Event (codes "settled") ∷ back) ≡ true) (once : (list_all is_other front ≡ true) × (list_all is_other back ≡ true))
     (keeps : list_all (λ line. keeps_order (tape_order line)) before ≡ true)
     (all_ended : (sessions : List Session) → AreSessions plan before front sessions → AllEnded sessions) where
-
   pub settled_behind : HasSettledBehind plan before rest acts back
   settled_behind = by (part_handled plan [] [] run.last before (settles ∷ rest) acts run.outputs run.handled)
     where

@@ -68,7 +68,7 @@ one_too_few_is_refused = refuses_map maps_disks (Some (1, 1 ∷ [])) (omega arit
 pub falling_is_refused : RefusesFalling
 falling_is_refused = refuses_map maps_disks (Some (1, 2 ∷ 1 ∷ [])) (omega arith, falling)
     (λ names agree. let rising : AllPairs (λ (a b : ℕ). a < b) (2 ∷ 1 ∷ []) = subst (AllPairs (λ (a b : ℕ). a < b)) (nodes_are maps_disks 1 (2 ∷ 1 ∷ []) names) names.rising in
-        omega (arith, rising 0 1 0 (omega arith) (omega arith)))
+    omega (arith, rising 0 1 0 (omega arith) (omega arith)))
 
 pub stranger_is_refused : RefusesStranger
 stranger_is_refused = refuses_map maps_disks (Some (4, 1 ∷ 2 ∷ [])) (omega arith, both)

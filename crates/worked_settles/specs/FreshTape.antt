@@ -1,5 +1,6 @@
--- A tape that is freshly ended. Each message has two of three nodes as targets. The first is given up by its session, the second is answered `250 stored`, and once
--- the cluster has settled both stand. The tape is run with any listing, that of a wrong program too; what is promised holds of the right one.
+-- A tape that is freshly ended. Two messages are told, each with two of three nodes as targets. The first is given up, and answered `451`; the second is answered
+-- `250 stored`. Once the cluster has settled both stand, and a new session lists them. The tape is run with any listing, that of a wrong program too; what is
+-- promised holds of the right one.
 use Rattle.std.specs.Prelude.{◌≡◌, ℕ, List, [], ◌∷◌, ◌++◌, flat_map, None, Some, codes}
 use Rattle.mail_model.specs.Identity.Key.{Message}
 use Rattle.mail_model.specs.Identity.Value.{Here}

@@ -45,15 +45,15 @@ stored_acts =
     ∷ []
 
 -- a manager, and the nodes that it names; or nobody
-abbrev pub Told : Type 0
-Told = Option (ℕ × List ℕ)
+abbrev pub ToldMap : Type 0
+ToldMap = Option (ℕ × List ℕ)
 
 -- all acts, where this is told
-abbrev pub maps_acts : Told → List (List Act)
+abbrev pub maps_acts : ToldMap → List (List Act)
 maps_acts told = stored_acts ++ (Makes Settle HasSettled ∷ []) ∷ (Makes (Maps (codes "alice")) (HasMapped (codes "alice") told) ∷ []) ∷ []
 
 -- all that is written then
-abbrev pub maps_entries : Told → List Entry
+abbrev pub maps_entries : ToldMap → List Entry
 maps_entries told = said_lines 1 (greeting_text 1 ∷ helo_text 1 ∷ []) ++ message_entries ++ event_entries (WasHeard 1) ++ event_entries (WasHeard 2)
     ++ said_lines 1 (stored_text ∷ closing_text 1 ∷ []) ++ closed_event 1 ∷ event_entries HasSettled ++ event_entries (HasMapped (codes "alice") told)
 
@@ -74,11 +74,11 @@ abbrev pub maps_disks : List (List Record)
 maps_disks = (Boot 1 ∷ filed 1 3) ∷ (Boot 1 ∷ filed 1 3) ∷ (Boot 1 ∷ []) ∷ []
 
 -- the right map: node 1 manages, and names both nodes that have mail of alice
-abbrev pub right_map : Told
+abbrev pub right_map : ToldMap
 right_map = Some (1, 1 ∷ 2 ∷ [])
 
 -- With any map this is a run, its transcript shows this session, with all that it asked and was answered, and the tape ends in the map, while all nodes are members.
-pub record IsMapsRun (told : Told) : Type 0 where
+pub record IsMapsRun (told : ToldMap) : Type 0 where
   pub run : IsRun worked_plan maps_lines (maps_entries told) (maps_acts told)
   pub sessions : AreSessions worked_plan maps_lines (maps_entries told) (storer ∷ [])
   pub answered : AreAnswered (storer ∷ [])
@@ -87,7 +87,7 @@ pub record IsMapsRun (told : Told) : Type 0 where
 
 -- The right map names what the disks have, and members agree: with it the cluster gives what it owes of the end of a run, and the promises are kept.
 pub record MapsTapeIsMet : Type 0 where
-  pub runs : (told : Told) → IsMapsRun told
+  pub runs : (told : ToldMap) → IsMapsRun told
   pub names : NamesFragments maps_disks three_members (codes "alice") right_map
   pub agree : MembersAgree maps_disks three_members
   pub shows : event_entries (HasMapped (codes "alice") right_map) ≡ Event (codes "maps alice at 1: 1 2") ∷ []

@@ -1,5 +1,5 @@
 -- Listings that a new session behind a settled epoch must not be shown. The tape is the one that is freshly ended; its transcript shows another listing, or the disks
--- say that a message of it is gone.
+-- say that a message of it is gone. With each of these listings the tape is a run (`FreshTapeIsMet`): it is the promise that refuses it.
 use Rattle.std.specs.Prelude.{List, [], ◌∷◌, ◌++◌, codes}
 use Rattle.mail_model.specs.Identity.Key.{Message}
 use Rattle.mail_model.specs.Identity.Value.{Gone}
@@ -30,7 +30,7 @@ RefusesTwice = RefusesListing fresh_disks (item 1 ∷ item 2 ∷ item 2 ∷ [])
 abbrev pub RefusesOrder : Type 0
 RefusesOrder = RefusesListing fresh_disks (item 2 ∷ item 1 ∷ [])
 
--- nodes 1 and 2 are as before, and node 3 says that the second message is gone, with a stamp of its own, which all nodes are meant to learn
+-- Nodes 1 and 2 are as before. Node 3 says that the second message is gone, with a stamp of its own and all nodes as targets.
 abbrev pub gone_disks : List (List Record)
 gone_disks =
     (Boot 1 ∷ filed 1 3) ∷ (Boot 1 ∷ filed 2 6 ++ filed 1 3)

@@ -1,4 +1,5 @@
--- Mail maps that a settled cluster must not tell, and disks that its members must not have.
+-- Mail maps that a settled cluster must not tell, and disks that its members must not have. With each of these maps the tape that ends in one is a run (`MapsTapeIsMet`):
+-- it is the promise that refuses it.
 use Rattle.std.specs.Prelude.{List, [], ◌∷◌, Some, None, codes}
 use Rattle.mail_model.specs.Record.{Record}
 use Rattle.mail_model.specs.Record.Record.{Boot}
@@ -7,10 +8,10 @@ use Rattle.standing_model.specs.Standing.{NamesFragments}
 use Rattle.fresh_sessions.specs.Kept.{IsRun}
 use Rattle.fresh_sessions.specs.Tapes.{SettledAgrees}
 use Rattle.worked_settles.specs.FreshTape.{worked_plan, three_members, filed}
-use Rattle.worked_settles.specs.MapsTape.{Told, maps_lines, maps_entries, maps_disks}
+use Rattle.worked_settles.specs.MapsTape.{ToldMap, maps_lines, maps_entries, maps_disks}
 
 -- Where this is told over these disks, the promise is false, whoever chooses the acts that led to the transcript.
-abbrev pub RefusesMap : List (List Record) → Told → Type 0
+abbrev pub RefusesMap : List (List Record) → ToldMap → Type 0
 RefusesMap disks told = (acts : List (List Act)) → IsRun worked_plan maps_lines (maps_entries told) acts → SettledAgrees worked_plan maps_lines acts disks → ⊥
 
 -- the map names node 3 too, which has no mail of alice

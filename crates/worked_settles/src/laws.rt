@@ -10,13 +10,13 @@ pub fn members_are_one()
     ensures { MembersAreOne }
 {}
 
-/// The premises of a fresh listing can be met: a tape of two messages meets them, and shows both.
+/// The premises of a fresh listing can be met: a tape of two messages meets them, and lists both.
 pub fn fresh_tape_is_met()
     ensures { FreshTapeIsMet }
 {}
 
-/// The premises of a right map can be met: a tape of one message meets them, and names both nodes that have
-/// it.
+/// The premises of a mail map can be met: a tape of one message meets them, and the map names both nodes
+/// that have it.
 pub fn maps_tape_is_met()
     ensures { MapsTapeIsMet }
 {}
@@ -26,17 +26,17 @@ pub fn missing_is_refused()
     ensures { RefusesMissing }
 {}
 
-/// Nor does one that shows a message twice,
+/// A listing that shows a message twice does not keep the promise.
 pub fn twice_is_refused()
     ensures { RefusesTwice }
 {}
 
-/// one that shows a message before another of an earlier stamp,
+/// A listing that shows a message before one of an earlier stamp does not keep the promise.
 pub fn order_is_refused()
     ensures { RefusesOrder }
 {}
 
-/// or one that shows a message of which a member says that it is gone.
+/// A listing that shows a message of which a member says that it is gone does not keep the promise.
 pub fn deleted_is_refused()
     ensures { RefusesDeleted }
 {}
@@ -46,28 +46,28 @@ pub fn one_too_many_is_refused()
     ensures { RefusesOneTooMany }
 {}
 
-/// Nor does one that leaves out a member with mail of the user,
+/// A map that leaves out a member with mail of the user does not keep the promise.
 pub fn one_too_few_is_refused()
     ensures { RefusesOneTooFew }
 {}
 
-/// one whose nodes do not rise,
+/// A map whose nodes are not in rising order does not keep the promise.
 pub fn falling_is_refused()
     ensures { RefusesFalling }
 {}
 
-/// one of a manager that is no member,
+/// A map of a manager that is no member does not keep the promise.
 pub fn stranger_is_refused()
     ensures { RefusesStranger }
 {}
 
-/// or one that nobody tells.
+/// That nobody tells a map does not keep the promise.
 pub fn nobody_is_refused()
     ensures { RefusesNobody }
 {}
 
-/// Disks of which one says a state that another member is a target of, and that member says nothing, do not
-/// keep the promise either, though the map is right.
+/// A member that says nothing of a message, though another says that it is a target of it, does not keep the
+/// promise, even where the map is right.
 pub fn silent_target_is_refused()
     ensures { RefusesSilentTarget }
 {}
