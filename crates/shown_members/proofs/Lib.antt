@@ -1,0 +1,3 @@
+pub mod Onward
+pub mod Shows
+pub mod Regrouped
