@@ -1,12 +1,11 @@
--- Once a node has regrouped, what it told is shown: all nodes that are up have installed it, and have promised it before any other was in flight that is later.
-use Rattle.std.proofs.Common.{◌≡◌, ◌≢◌, ◌⊎◌, inl, inr, ⊎_elim, ℕ, suc, ◌+◌, ◌≤◌, Bool, false, List, [], ◌∷◌, flat_map, Option, Some, None, refl, sym, ap, ◌∙◌, subst, nat_eq, arith, if◌then◌else◌}
+-- Once a node has regrouped, what it told is shown: all nodes that are up have installed it, and no Install that was in flight before names one of them and is of a later epoch.
+use Rattle.std.proofs.Common.{◌≡◌, ◌≢◌, ◌⊎◌, inl, inr, ⊎_elim, ℕ, suc, ◌+◌, ◌≤◌, Bool, false, List, [], ◌∷◌, Option, Some, None, refl, sym, ap, ◌∙◌, subst, arith}
 use Rattle.mail_model.specs.Identity.{EpochId}
 use Rattle.mail_model.specs.Plan.{Plan}
 use Rattle.mail_model.specs.Record.{Record}
 use Rattle.object_model.specs.Lists.{Among}
 use Rattle.object_model.specs.Letters.{Membership, Letter}
 use Rattle.object_model.specs.Letters.Body.{Install}
-use Rattle.cluster_model.specs.Cluster.{set_of_members}
 use Rattle.cluster_model.specs.World.{letters_of}
 use Rattle.cluster_model.specs.Steps.Step.{Start, Post}
 use Rattle.maps_model.specs.Cluster as maps
@@ -14,8 +13,8 @@ use Rattle.maps_model.specs.Words as words
 use Rattle.maps_model.specs.Epochs.{IsAtMost}
 use Rattle.maps_model.specs.Rules as maps_rules
 use Rattle.maps_model.proofs.Lists.{same_or_apart}
-use Rattle.maps_model.proofs.Order.{most_most, most_itself}
-use Rattle.whole_model.specs.Whole.{Node, Slot, maps_slot, maps_disk_of, with_slot}
+use Rattle.maps_model.proofs.Order.{most_most}
+use Rattle.whole_model.specs.Whole.{Node, Slot, maps_slot, with_slot}
 use Rattle.whole_model.specs.Whole.Life.{Up}
 use Rattle.whole_world.specs.World.{World, maps_world_of, slot_up, IsUp, Reaction}
 use Rattle.whole_world.specs.Steps.{Step, Said}
@@ -26,10 +25,10 @@ use Rattle.whole_world.specs.Makes.{done_for_maps, Forms, MakesStep}
 use Rattle.whole_world.specs.Makes.DoesStep.{ForMessages, PostsMaps, Starts, OpensGroup, ConcludesGroup, SendsReports}
 use Rattle.whole_world.specs.Laws.{Stands}
 use Rattle.whole_world.specs.Settled.{IsKnownEpoch}
-use Rattle.whole_world.specs.Regroup.{PostsEach, ThrownOld, Round, ConcludesAll, Regroups, maps_at, AreNumbered, HasRoomFor, HasFormed}
+use Rattle.whole_world.specs.Regroup.{PostsEach, ThrownOld, ConcludesAll, Regroups, maps_at, AreNumbered, HasRoomFor, HasFormed}
 use Rattle.whole_world.specs.Regroup.Regroups.{AtOnce, Again}
 use Rattle.whole_world.proofs.Along.{maps_here}
-use Rattle.whole_world.proofs.Entering.{posts_stand, round_stands, concluded_tells, install_to, installs_of}
+use Rattle.whole_world.proofs.Entering.{posts_stand, round_stands, concluded_tells, installs_of}
 use Rattle.whole_world.proofs.Forming.{regroups_form}
 use Rattle.whole_world.proofs.Returning.{written_back}
 use Rattle.whole_world.proofs.Rounding.{some_same, none_some, view_up, up_view, RoundDone, round_done}
@@ -37,7 +36,7 @@ use Rattle.whole_world.proofs.Seeing.{put_slots, put_among}
 use Rattle.whole_world.proofs.Settling.{one_map_per_epoch}
 use Rattle.whole_world.proofs.Stepping.{makes_stand}
 use Rattle.whole_world.proofs.Turning.{ordered}
-use Rattle.shown_members.specs.Shown.{ShowsStill, MovesNobody, IsTold}
+use Rattle.shown_members.specs.Shown.{IsTold}
 use Rattle.shown_members.proofs.Onward.{From, Onward, BringsNone, makes_onward}
 use Rattle.shown_members.proofs.Onward.From.{Stays, Goes, Begins}
 
@@ -184,7 +183,7 @@ module _ (plan : Plan) (tells : Bool) (old mid new : World) (n : ℕ) (epoch : E
       let u = view_up new n s.0 s.1 in
       inl (n, u.0, u.1, u.2, ap (λ (x : maps.Node). x.installed) u.3 ∙ s.2)
 
-  -- an Install that was in flight before names nobody who has promised less
+  -- an Install that was in flight before and names one of them is of no later epoch
   not_later : (letter : Letter) → Among letter (letters_of mid.flying) → (k : Membership) → letter.body ≡ Install k → (q : ℕ) (was : Node) (disk : List Record) → IsUp mid q was disk
       → maps.NamesNode k q was.maps.boot → IsAtMost k.epoch epoch
   not_later letter m k body q was disk up names = most_most k.epoch was.maps.promise epoch

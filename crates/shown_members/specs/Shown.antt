@@ -68,3 +68,7 @@ abbrev pub SettledIsShown : Type 0
 SettledIsShown = (w : World) (g : Membership) → ShowsStill w g
     → ((n : ℕ) (node : Node) (disk : List Record) → IsUp w n node disk → (h : Membership) → node.maps.installed ≡ Some h → h ≡ g)
     × ((h : Membership) (member : Member) → Among member h.members → IsSettled w h → h ≡ g)
+
+-- The premise of RegroupShows on numbers of letters: each step keeps it, whatever comes of it.
+abbrev pub StepsNumber : Type 0
+StepsNumber = (plan : Plan) (tells : Bool) (old new : World) (step : Step) (outcome : StepOutcome) → MakesStep plan tells old step outcome new → AreNumbered old → AreNumbered new

@@ -1,5 +1,5 @@
 // The laws of what is shown of members: functions that do nothing, whose contracts hold of the definitions alone.
-ghost use Rattle.shown_members.specs.Shown.{StepsShow, AllStepsShow, FirstShows, RegroupShows, SettledIsShown};
+ghost use Rattle.shown_members.specs.Shown.{StepsShow, AllStepsShow, FirstShows, RegroupShows, SettledIsShown, StepsNumber};
 
 /// A step that forms no epoch keeps it that the nodes have installed this membership, or none.
 pub fn steps_show()
@@ -24,4 +24,9 @@ pub fn regroup_shows()
 /// An epoch that is settled is the one that the cluster has.
 pub fn settled_is_shown()
     ensures { SettledIsShown }
+{}
+
+/// No step leaves a letter in flight with a number above the last.
+pub fn steps_number()
+    ensures { StepsNumber }
 {}

@@ -13,12 +13,13 @@
 //! one membership, or none, and that no Install in flight brings a node to another. The laws are
 //! functions that do nothing, and their contracts hold of the definitions alone: `steps_show` and
 //! `all_steps_show`, that steps keep it as long as none concludes a group; `first_shows` and
-//! `regroup_shows`, how it begins; and `settled_is_shown`, what follows of it.
+//! `regroup_shows`, how it begins; and `settled_is_shown`, what follows of it. `steps_number` is for the
+//! premise of `regroup_shows` on numbers of letters: each step keeps it.
 //!
 //! STANDS ON
 //!
 //! `whole_world` for the steps, the first epoch, and what a regroup comes to; `maps_model` for the rules
-//! of Install letters and for what its invariant says of them.
+//! of Install letters and for what its invariant says of them; `cluster_model` for the numbers of letters.
 //!
 //! WHAT IT DOES NOT DO
 //!
@@ -29,4 +30,6 @@
 
 mod laws;
 
-pub use laws::{all_steps_show, first_shows, regroup_shows, settled_is_shown, steps_show};
+pub use laws::{
+    all_steps_show, first_shows, regroup_shows, settled_is_shown, steps_number, steps_show,
+};
