@@ -56,7 +56,8 @@ use Rattle.cluster_world.proofs.Leading.{opens_whole}
 use Rattle.cluster_world.proofs.Righted.{has_member}
 use Rattle.settled_worlds.specs.Settled.{MakesNone, MembersMade}
 use Rattle.settled_worlds.specs.Settled.MembersMade.{AtOpening, ByRegroup}
-use Rattle.settled_worlds.proofs.Below.{steps_number, joint_steps_keep_parts, joint_worlds_have_parts}
+use Rattle.shown_members.proofs.Numbering.{steps_number}
+use Rattle.settled_worlds.proofs.Below.{joint_steps_keep_parts, joint_worlds_have_parts}
 use Rattle.settled_worlds.proofs.Carrying.{Has, Keeps, HasSessions, came_has, makes_have}
 use Rattle.settled_worlds.proofs.Formings.{IsNoConclusion, sessions_conclude_none, one_forms, any_kind, all_kinds, none_concludes, none_conclude}
 use Rattle.settled_worlds.proofs.Members.{exactly_those, first_exactly, member_in}
@@ -105,7 +106,7 @@ module _ {D : Type 0} (on : View D) (plan : Plan) (told : Bool) (few : plan.node
   keeps_all : Keeps on plan told (λ s. ⊤) (Keeping plan)
   keeps_all result made good story v w sound makes k = record {
     parts = joint_steps_keep_parts plan told story v w (record { step = whole_step made; outcome = whole_outcome result } ∷ []) (omega (arith, few)) (w, makes, refl) sound k.parts;
-    numbered = steps_number plan told (whole_world_of v) (whole_world_of w) (whole_step made) (whole_outcome result) (makes_same plan told story v sound (whole_step made) (whole_outcome result) w makes) sound.whole k.numbered;
+    numbered = steps_number plan told (whole_world_of v) (whole_world_of w) (whole_step made) (whole_outcome result) (makes_same plan told story v sound (whole_step made) (whole_outcome result) w makes) k.numbered;
   }
 
   pub keeps_showing : (g : Membership) → Keeps on plan told IsNoConclusion (Showing plan g)

@@ -1,16 +1,6 @@
 -- What the crates below say of steps (their lemmas, in the words of this crate).
-use Rattle.std.proofs.Common.{◌≡◌, ◌≤◌, ℕ, Bool, List, ◌∷◌, [], map}
-use Rattle.mail_model.specs.Plan.{Plan}
-use Rattle.whole_world.specs.World.{World}
-use Rattle.whole_world.specs.Steps.{Step, StepOutcome}
-use Rattle.whole_world.specs.Makes.{MakesStep}
-use Rattle.whole_world.specs.Laws.{Stands}
-use Rattle.whole_world.specs.Regroup.{AreNumbered}
 use Rattle.settled_logins.specs.Settled.{ReaderStepsStand, LoginsBeginSettled, BeganStaysSettled, BeganListsStanding}
 use Rattle.settled_logins.specs.Laws.{SettledNamesFragments, JointStepsKeepParts, JointWorldsHaveParts}
-
-pub steps_number : (plan : Plan) (tells : Bool) (old new : World) (step : Step) (outcome : StepOutcome) → MakesStep plan tells old step outcome new → Stands plan old → AreNumbered old → AreNumbered new
-steps_number = ?
 
 pub reader_steps_stand : ReaderStepsStand
 reader_steps_stand = ?

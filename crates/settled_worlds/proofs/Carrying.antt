@@ -4,6 +4,7 @@ use Rattle.std.specs.Prelude.{⊤, Result, Ok, Err}
 use Rattle.mail_model.specs.Plan.{Plan}
 use Rattle.mail_model.specs.Tape.{ClusterOrder}
 use Rattle.mail_model.specs.Tape.{ClusterOrder as order}
+use Rattle.object_model.specs.Letters.{Number}
 use Rattle.object_model.specs.Lists.{Among}
 use Rattle.call_tickets.specs.declared.call.Call.{Call as WorldCall}
 use Rattle.call_tickets.specs.declared.call.Call.TheVariants as calls
@@ -52,8 +53,8 @@ AllOfKind Good (one ∷ more) = AreOfKind Good one × AllOfKind Good more
 -- a kind that has all steps of sessions
 pub record HasSessions (Good : Step → Type 0) : Type 0 where
   pub begins : (node : ℕ) (call : WorldCall) → Good (step.Begin node call)
-  pub asks : (ticket : _) → Good (step.Ask ticket)
-  pub gives_up : (ticket : _) → Good (step.GiveUp ticket)
+  pub asks : (ticket : Number) → Good (step.Ask ticket)
+  pub gives_up : (ticket : Number) → Good (step.GiveUp ticket)
 
 -- a user's leave hands no message in
 pub leave_ended : (user : List ℕ) (begun : WorldCall) → IsLeave user begun → IsTextEnded (machine_call begun)

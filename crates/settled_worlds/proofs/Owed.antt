@@ -3,9 +3,11 @@ use Rattle.std.proofs.Common.{◌≡◌, ◌⊎◌, inl, inr, ⊎_elim, ℕ, ◌
 use Rattle.std.specs.Prelude.{All}
 use Rattle.mail_model.specs.Plan.{Plan}
 use Rattle.mail_model.specs.Record.{Record}
-use Rattle.object_model.specs.Letters.{Number}
+use Rattle.object_model.specs.Letters.{Number, Letter}
 use Rattle.object_model.specs.Lists.{Among}
-use Rattle.object_model.proofs.Lists.{among_front}
+use Rattle.object_model.proofs.Lists.{among_last}
+use Rattle.cluster_model.specs.Room.{Flight}
+use Rattle.cluster_model.specs.World.{letters_of}
 use Rattle.mail_model.specs.Maildrop.{Given}
 use Rattle.mail_model.specs.PopReplies.{Item}
 use Rattle.session_model.specs.Calls as model
@@ -61,7 +63,7 @@ module _ {D : Type 0} (on : View D) where
   came_none k (Began j n asked ticket) awaited left old new not_own (call, stirs, e, is, left_is) none = subst (AwaitsNone k) (sym left_is) (λ one m own. ⊎_elim
       (λ before. none one before own)
       (λ same. not_own n asked ticket (ap (λ i. Began i n asked ticket) (ap (λ (x : Awaited). x.session) same ∙ own)))
-      (Rattle.object_model.proofs.Lists.among_last one awaited (record { ticket = ticket; session = j; call = asked }) m))
+      (among_last one awaited (record { ticket = ticket; session = j; call = asked }) m))
   came_none k (Refused j n asked) awaited left old new not_own (call, why, e, refusal, is, left_is) none = same_none k awaited left _ left_is (all_of awaited) none
   came_none k (Fell j n asked) awaited left old new not_own (call, e, is, left_is) none = same_none k awaited left _ left_is (fewer_after (Some n) awaited) none
   came_none k (Broke j n asked) awaited left old new not_own (call, failed, e, is, left_is) none = same_none k awaited left _ left_is (fewer_after (Some failed) awaited) none
@@ -126,8 +128,8 @@ module _ {D : Type 0} (on : View D) where
           settles_begins_none : (n : ℕ) (asked : model.Call) (ticket : Number) → Settling (Ok Settled) steps ≡ Began k n asked ticket → ⊥
           settles_begins_none n asked ticket e = cc
 
-          none_flies : (flying : List _) → flying ≡ [] → (letter : _) → Among letter (Rattle.cluster_model.specs.World.letters_of flying) → ⊥
-          none_flies flying none letter m = subst (λ f. Among letter (Rattle.cluster_model.specs.World.letters_of f)) none m
+          none_flies : (flying : List Flight) → flying ≡ [] → (letter : Letter) → Among letter (letters_of flying) → ⊥
+          none_flies flying none letter m = subst (λ f. Among letter (letters_of f)) none m
 
       pub fresh : (members : List ℕ) (k node : ℕ) → All IsReaderOutcome behind → MembersMade plan front members → Among node members → AsksNone k front
           → ((n : ℕ) (asked : model.Call) (ticket : Number) → Among (Began k n asked ticket) behind → n ≡ node)

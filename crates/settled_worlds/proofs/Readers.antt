@@ -12,6 +12,7 @@ use Rattle.call_tickets.specs.declared.call.Call.TheVariants as calls
 use Rattle.call_tickets.specs.declared.answer.Ask.{Ask}
 use Rattle.cluster_model.specs.Steps.Step.{Begin as MailBegin, Post as MailPost}
 use Rattle.cluster_model.specs.Steps.Said.{Faulted as MailFaulted}
+use Rattle.whole_world.specs.Steps as whole_steps
 use Rattle.whole_world.specs.Steps.{StepOutcome}
 use Rattle.whole_world.specs.Steps.Step.{OfMessages}
 use Rattle.whole_world.specs.Steps.Said.{Told}
@@ -64,11 +65,11 @@ fewer_after_all (made ∷ more) awaited one m = fewer_after (fallen_in made.step
 
 -- ---- steps of readers
 
+says_same : (a b : whole_steps.Said) → Says a ≡ Says b → a ≡ b
+says_same a b e = cc
+
 says_well : (what : Said) → ((n : ℕ) → whole_said what ≢ Told (MailFaulted n)) → GoesWell (whole_outcome (Ok what))
-says_well what fine = record { disks = λ n e. fine n (same (whole_said what) (Told (MailFaulted n)) e); memory = λ n e. cc e }
-  where
-    same : (a b : _) → Says a ≡ Says b → a ≡ b
-    same a b e = cc
+says_well what fine = record { disks = λ n e. fine n (says_same (whole_said what) (Told (MailFaulted n)) e); memory = λ n e. cc e }
 
 -- a step that did not fail
 pub goes_well : (result : Result Said StepFault) → has_failed result ≡ false → GoesWell (whole_outcome result)

@@ -18,6 +18,7 @@ use Rattle.standing_model.specs.Standing.{HasExactly, disk_at}
 use Rattle.settled_logins.specs.Reading.{disks_of as slots_disks}
 use Rattle.disk_journal.specs.Journal.{EndsAt}
 use Rattle.node_store.specs.Disks.{View}
+use Rattle.whole_node.specs.declared.node.WholeNode.{WholeNode}
 use Rattle.cluster_world.specs.Lives.{of_node}
 use Rattle.cluster_world.specs.Sound.{IsWhole}
 use Rattle.cluster_world.specs.Worlds.{state_of, disks_of, lives_of, disks_tell}
@@ -25,7 +26,7 @@ use Rattle.cluster_world.specs.declared.life.Life.TheVariants.{Up}
 use Rattle.cluster_world.specs.declared.world.World.{World}
 use Rattle.cluster_world.proofs.AtOpening.{up_here}
 use Rattle.cluster_world.proofs.ReadSlots.{up_for}
-use Rattle.cluster_world.proofs.Still.{both_at}
+use Rattle.cluster_world.proofs.Still.{some_same, both_at}
 use Rattle.cluster_world.proofs.Wholes.{as_whole}
 use Rattle.settled_worlds.proofs.Alike.{AreAlike}
 use Rattle.settled_worlds.proofs.Members.{member_in}
@@ -34,12 +35,9 @@ use Rattle.settled_worlds.proofs.Members.{member_in}
 told_octets : {D : Type 0} (seen : D → Option (List ℕ)) (disks : List D) (k : ℕ) (disk : D) → list_all (λ d. is_some (seen d)) disks ≡ true → slice_get disks k ≡ Some disk → (octets : List ℕ) × (seen disk ≡ Some octets)
 told_octets seen [] k disk all here = absurd (let never : None ≡ Some disk = here in cc)
 told_octets seen (d ∷ disks) zero disk all here =
-    let is : d ≡ disk = same d disk here in
+    let is : d ≡ disk = some_same d disk here in
     by (seen disk) refl (ap (λ x. is_some (seen x)) (sym is) ∙ (and_parts (is_some (seen d)) (list_all (λ x. is_some (seen x)) disks) all).0)
   where
-    same : (a b : _) → Some a ≡ Some b → a ≡ b
-    same a b e = cc
-
     by : (o : Option (List ℕ)) → seen disk ≡ o → is_some (seen disk) ≡ true → (octets : List ℕ) × (seen disk ≡ Some octets)
     by None e some = absurd (let never : false ≡ true = ap is_some (sym e) ∙ some in cc)
     by (Some octets) e some = (octets, e)
@@ -57,7 +55,7 @@ held_at : {D : Type 0} (seen : D → Option (List ℕ)) (node own k : ℕ) (disk
 held_at seen node own k [] all disk are here at = absurd (let never : None ≡ Some disk = here in cc)
 held_at seen node own k (d ∷ disks) [] disk are here at = absurd are
 held_at seen node own zero (d ∷ disks) (records ∷ all) disk are here at =
-    let is : d ≡ disk = same d disk here in
+    let is : d ≡ disk = some_same d disk here in
     let number : node ≡ own = omega (arith, at) in
     record {
       records = records;
@@ -65,9 +63,6 @@ held_at seen node own zero (d ∷ disks) (records ∷ all) disk are here at =
       fit = are.0;
       tells = subst (λ x. IfSome (seen x) (λ octets. IsJournal own octets (payloads_of records))) is (subst (λ n. IfSome (seen d) (λ octets. IsJournal n octets (payloads_of records))) number are.1);
     }
-  where
-    same : (a b : _) → Some a ≡ Some b → a ≡ b
-    same a b e = cc
 held_at seen node own (suc k) (d ∷ disks) (records ∷ all) disk are here at =
     let more = held_at seen (node + 1) own k disks all disk are.2 here (omega (arith, at)) in
     record { records = more.records; here = more.here; fit = more.fit; tells = more.tells }
@@ -85,17 +80,14 @@ ends_journal own end records (Some octets) tells = tells.journal
 
 map_here : {X Y : Type 0} (f : X → Y) (xs : List X) (k : ℕ) (x : X) → slice_get xs k ≡ Some x → slice_get (map f xs) k ≡ Some (f x)
 map_here f [] k x e = absurd (let never : None ≡ Some x = e in cc)
-map_here f (y ∷ xs) zero x e = ap (λ z. Some (f z)) (same y x e)
-  where
-    same : (a b : _) → Some a ≡ Some b → a ≡ b
-    same a b h = cc
+map_here f (y ∷ xs) zero x e = ap (λ z. Some (f z)) (some_same y x e)
 map_here f (y ∷ xs) (suc k) x e = map_here f xs k x e
 
 module _ {D : Type 0} (on : View D) (plan : Plan) (world : World D) (h : IsWhole on plan world) (tells : disks_tell on.seen world ≡ true) (disks : List (List Record)) (are : AreDisks 1 (map on.seen (disks_of world)) disks) where
   even : length (disks_of world) ≡ length (lives_of world)
   even = world.nodes.disk_each ∙ sym world.nodes.all
 
-  same_up : (n : ℕ) (node : _) → of_node (lives_of world) n ≡ Some (Up node) → disk_at (slots_disks h.v) n ≡ disk_at disks n
+  same_up : (n : ℕ) (node : WholeNode) → of_node (lives_of world) n ≡ Some (Up node) → disk_at (slots_disks h.v) n ≡ disk_at disks n
   same_up zero node here = absurd (let never : None ≡ Some (Up node) = here in cc)
   same_up (suc k) node here =
       let (disk, held) = both_at (disks_of world) (lives_of world) k (Up node) (sym even) here in
