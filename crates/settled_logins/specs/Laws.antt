@@ -40,11 +40,11 @@ pub record TellsFragments (plan : Plan) (w : World) (g : Membership) (nodes : Li
   pub installed : node.whole.maps.installed ≡ Some g
   pub names : (most : ℕ) → plan.nodes ≤ most → NamesFragments (disks_of w) nodes user (Some (manager, nodes_in (user_named_in node.whole.maps user (Some g)) most))
 
--- In a settled epoch it is so of each user, and members that are targets of a state say the same.
+-- In a settled epoch that has a member it is so of each user, and members that are targets of a state say the same.
 abbrev pub SettledNamesFragments : Type 0
 SettledNamesFragments = (plan : Plan) (tells : Bool) (story : List (List login.Slot)) (w : World) → Stands plan tells story w → plan.nodes ≤ 64 → (g : Membership) → IsSettled (whole_world_of w) g
     → (nodes : List ℕ) → HasExactly (set_of_members g.members) nodes
-    → ((user : List ℕ) (manager : ℕ) → manager_of g user ≡ Some manager → TellsFragments plan w g nodes user manager) × MembersAgree (disks_of w) nodes
+    → ((member : Member) → Among member g.members → (user : List ℕ) (manager : ℕ) → manager_of g user ≡ Some manager → TellsFragments plan w g nodes user manager) × MembersAgree (disks_of w) nodes
 
 -- The parts on deletions and on octets stay whatever steps are made,
 abbrev pub JointStepsKeepParts : Type 0

@@ -1,5 +1,6 @@
 -- Steps of readers: calls that read begin, their tickets are asked, and letters are posted, while nothing else is done with the cluster.
 use Rattle.std.specs.Prelude.{◌≡◌, ◌≢◌, ℕ, Bool, List, ◌∷◌, ◌++◌, map, Some}
+use Rattle.mail_model.specs.Identity.{Id}
 use Rattle.mail_model.specs.Plan.{Proof}
 use Rattle.mail_model.specs.Record.{Record}
 use Rattle.object_model.specs.Lists.{Among}
@@ -11,7 +12,6 @@ use Rattle.cluster_model.specs.Reads.Found.{Listed}
 use Rattle.cluster_model.specs.Steps.NodeCall.{Login, Fetch, Leave}
 use Rattle.cluster_model.specs.Steps.Step.{Begin, AskFor, Post}
 use Rattle.cluster_model.specs.Steps.Said.{Begun, Asked, Faulted}
-use Rattle.mail_model.specs.Identity.{Id}
 use Rattle.whole_world.specs.Makes.{MadeStep}
 use Rattle.whole_world.specs.Steps.{StepOutcome}
 use Rattle.whole_world.specs.Steps.Step.{OfMessages}
