@@ -23,6 +23,7 @@ use Rattle.joint_world.specs.World.{whole_world_of, mail_world_of}
 use Rattle.joint_world.proofs.Opening.{first_all_stand}
 use Rattle.joint_world.proofs.SameStep.{makes_same}
 use Rattle.kept_parts.specs.Kept.{PartsHold}
+use Rattle.settled_logins.proofs.Parts.{parts_stay, worlds_have_parts}
 use Rattle.shown_members.specs.Shown.{ShowsStill, IsTold}
 use Rattle.shown_members.proofs.Shows.{step_shows, first_shows, settled_shown}
 use Rattle.standing_model.specs.Standing.{HasExactly}
@@ -57,7 +58,6 @@ use Rattle.cluster_world.proofs.Righted.{has_member}
 use Rattle.settled_worlds.specs.Settled.{MakesNone, MembersMade}
 use Rattle.settled_worlds.specs.Settled.MembersMade.{AtOpening, ByRegroup}
 use Rattle.shown_members.proofs.Numbering.{steps_number}
-use Rattle.settled_worlds.proofs.Below.{joint_steps_keep_parts, joint_worlds_have_parts}
 use Rattle.settled_worlds.proofs.Carrying.{Has, Keeps, HasSessions, came_has, makes_have}
 use Rattle.settled_worlds.proofs.Formings.{IsNoConclusion, sessions_conclude_none, one_forms, any_kind, all_kinds, none_concludes, none_conclude}
 use Rattle.settled_worlds.proofs.Members.{exactly_those, first_exactly, member_in}
@@ -105,7 +105,7 @@ found_room n (made ∷ steps) rounds installs one old split begins = begins
 module _ {D : Type 0} (on : View D) (plan : Plan) (told : Bool) (few : plan.nodes ≤ 16) where
   keeps_all : Keeps on plan told (λ s. ⊤) (Keeping plan)
   keeps_all result made good story v w sound makes k = record {
-    parts = joint_steps_keep_parts plan told story v w (record { step = whole_step made; outcome = whole_outcome result } ∷ []) (omega (arith, few)) (w, makes, refl) sound k.parts;
+    parts = parts_stay plan told story v w (record { step = whole_step made; outcome = whole_outcome result } ∷ []) (omega (arith, few)) (w, makes, refl) sound k.parts;
     numbered = steps_number plan told (whole_world_of v) (whole_world_of w) (whole_step made) (whole_outcome result) (makes_same plan told story v sound (whole_step made) (whole_outcome result) w makes) k.numbered;
   }
 
@@ -141,7 +141,7 @@ module _ {D : Type 0} (on : View D) (plan : Plan) (told : Bool) (few : plan.node
         };
         holds = subst (Showing plan (first_membership plan.nodes rows)) (sym first) (record {
           keeping = record {
-            parts = joint_worlds_have_parts plan told rows [] (first_world plan.nodes rows) begins.some within managers refl;
+            parts = worlds_have_parts plan told rows [] (first_world plan.nodes rows) begins.some within managers refl;
             numbered = record { each = λ f m. absurd m };
           };
           shows = subst (λ w. ShowsStill w (first_membership plan.nodes rows)) (sym stands.1) (first_shows plan.nodes rows);
@@ -151,8 +151,34 @@ module _ {D : Type 0} (on : View D) (plan : Plan) (told : Bool) (few : plan.node
   fewer : (g : Membership) (world : World D) → Has on plan told (Showing plan g) world → Has on plan told (Keeping plan) world
   fewer g world h = record { of = h.of; whole = h.whole; holds = h.holds.keeping }
 
+  -- and so it is where a regroup formed an epoch
+  record FormedAt (set : ℕ) (world : World D) : Type 0 where
+    g : Membership
+    stood : Has on plan told (Showing plan g) world
+    set_is : set ≡ set_of_members g.members
+
+  formed_at : (node : ℕ) (steps : List StepMade) (epoch : EpochId) (set : ℕ) (old new : World D) → FormsBy node epoch set steps → MakesOrder on (order.Regroup node) steps old new → Has on plan told (Keeping plan) old → FormedAt set new
+  formed_at node steps epoch set old new forms (result, regroup) ready =
+      let is = one_forms node result steps epoch set old regroup.shape forms in
+      let in_order : IsInOrder on node epoch set old new steps = subst (λ (r : Result Regroup StepFault). FormsInOrder on node r old new steps) is regroup.order in
+      let f = shows_formed on plan told (Keeping plan) keeps_all node epoch set old new steps in_order ready (found_room node steps forms.rounds forms.installs _ old forms.split regroup.room) ready.holds.numbered in
+      record {
+        g = f.is_told.membership;
+        stood = record { of = f.ends.of; whole = f.ends.whole; holds = record { keeping = f.ends.holds; shows = f.is_told.shows } };
+        set_is = f.is_told.members_are;
+      }
+
   module _ (lines : List (List ℕ)) where
-    -- and so it is behind outcomes that show members
+    -- what formed no epoch since
+    since : (set : ℕ) (behind : List Outcome) (awaited left : List Awaited) (old new : World D) → All MakesNone behind → IsKnown told plan.nodes behind → AreOfSessions lines behind → Makes on behind awaited old left new
+        → FormedAt set old → (members : List ℕ) → members ≡ nodes_in set 16 → Arrived members new
+    since set behind awaited left old new none known sessions makes f members are = record {
+      g = f.g;
+      stood = makes_have on plan told (Showing plan f.g) IsNoConclusion (keeps_showing f.g) sessions_conclude_none lines behind awaited left old new (none_conclude on behind awaited left old new none makes) known sessions makes f.stood;
+      exactly = λ within. subst (HasExactly (set_of_members f.g.members)) (sym (are ∙ ap (λ s. nodes_in s 16) f.set_is)) (exactly_those (set_of_members f.g.members) 16 within);
+    }
+
+    -- so it is behind outcomes that show members
     pub arrive : (front : List Outcome) (left : List Awaited) (start mid : World D) → IsAtBeginning on plan start → disks_tell on.seen start ≡ told → IsKnown told plan.nodes front → AreOfSessions lines front
         → Makes on front [] start left mid → (members : List ℕ) → MembersMade plan front members → Arrived members mid
     arrive front left start mid begins told_is known sessions makes members (AtOpening are none) = record {
@@ -168,19 +194,8 @@ module _ {D : Type 0} (on : View D) (plan : Plan) (told : Bool) (few : plan.node
         let of_all : AreOfSessions lines (before ++ one ∷ behind) = subst (AreOfSessions lines) are sessions in
         let ready = makes_have on plan told (Keeping plan) (λ s. ⊤) keeps_all all_sessions lines before [] p.between start p.mid (all_kinds before) (known_front told plan.nodes before (one ∷ behind) known_all)
         (sessions_front lines before (one ∷ behind) of_all) p.before (fewer _ start (starts start begins told_is)) in
-        let (result, regroup) = p.came.0 in
-        let is = one_forms node result steps epoch set p.mid regroup.shape forms in
-        let in_order : IsInOrder on node epoch set p.mid p.next steps = subst (λ (r : Result Regroup StepFault). FormsInOrder on node r p.mid p.next steps) is regroup.order in
-        let f = shows_formed on plan told (Keeping plan) keeps_all node epoch set p.mid p.next steps in_order ready (found_room node steps forms.rounds forms.installs _ p.mid forms.split regroup.room) ready.holds.numbered in
-        let g = f.is_told.membership in
-        let shown : Has on plan told (Showing plan g) p.next = record { of = f.ends.of; whole = f.ends.whole; holds = record { keeping = f.ends.holds; shows = f.is_told.shows } } in
-        record {
-          g = g;
-          stood = makes_have on plan told (Showing plan g) IsNoConclusion (keeps_showing g) sessions_conclude_none lines behind p.after left p.next mid (none_conclude on behind p.after left p.next mid none p.more)
-              (known_others told plan.nodes one behind (known_behind told plan.nodes before (one ∷ behind) known_all))
-              (λ o m. sessions_behind lines before (one ∷ behind) of_all o (inr m)) p.more shown;
-          exactly = λ within. subst (HasExactly (set_of_members g.members)) (sym (members_are ∙ ap (λ s. nodes_in s 16) f.is_told.members_are)) (exactly_those (set_of_members g.members) 16 within);
-        }
+        since set behind p.after left p.next mid none (known_others told plan.nodes one behind (known_behind told plan.nodes before (one ∷ behind) known_all)) (λ o m. sessions_behind lines before (one ∷ behind) of_all o (inr m)) p.more
+        (formed_at node steps epoch set p.mid p.next forms p.came.0 ready) members members_are
 
     -- The settle ended well: the epoch that it is settled in is that one.
     pub record SettledAt (members : List ℕ) (world : World D) : Type 0 where
@@ -189,6 +204,7 @@ module _ {D : Type 0} (on : View D) (plan : Plan) (told : Bool) (few : plan.node
       pub rests : IsSettledIn (state_of world)
       pub same : rests.membership ≡ g
       pub settled : IsSettled (whole_world_of stood.whole.v) g
+      pub some : (member : Member) × Among member g.members
       pub clear : stood.whole.v.flying ≡ []
       pub exactly : HasExactly (set_of_members g.members) members
 
@@ -211,6 +227,7 @@ module _ {D : Type 0} (on : View D) (plan : Plan) (told : Bool) (few : plan.node
           rests = rests;
           same = same;
           settled = subst (IsSettled (whole_world_of stood.whole.v)) same there;
+          some = (member, subst (λ (x : Membership). Among member x.members) same inside);
           clear = sym stood.whole.stands.mail.flying ∙ rests.clear;
           exactly = a.exactly (λ n h.
               let (one, m, is) = member_in a.g.members n h in

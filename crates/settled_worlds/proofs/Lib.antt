@@ -1,6 +1,5 @@
 pub mod Alike
 pub mod Members
-pub mod Below
 pub mod Carrying
 pub mod Regrouping
 pub mod Parted

@@ -22,6 +22,7 @@ use Rattle.joint_model.specs.Joint as joint_model
 use Rattle.joint_model.specs.Joint.{user_named_in}
 use Rattle.joint_world.specs.World.{whole_world_of}
 use Rattle.settled_logins.specs.Reading.{disks_of as slots_disks}
+use Rattle.settled_logins.proofs.Maps.{tells_fragments, agrees}
 use Rattle.standing_model.specs.Standing.{HasExactly, NamesFragments, MembersAgree}
 use Rattle.node_maps.specs.Naming as naming
 use Rattle.node_maps.specs.Naming.{named_by, named_within}
@@ -42,7 +43,6 @@ use Rattle.cluster_world.proofs.Righted.{latest_known}
 use Rattle.cluster_world.proofs.Still.{some_same}
 use Rattle.cluster_world.proofs.Wholes.{as_whole, whole_up}
 use Rattle.settled_worlds.proofs.Arriving.{Showing, SettledAt}
-use Rattle.settled_worlds.proofs.Below.{settled_names_fragments}
 use Rattle.settled_worlds.proofs.Carrying.{sound_at}
 
 -- a user has a manager, where there is a row for each bucket
@@ -61,18 +61,14 @@ record Found (members : List Member) (n : ℕ) : Type 0 where
 
 found : (members : List Member) (n : ℕ) (member : Member) → Among member members → member.node ≡ n → Found members n
 found [] n member m is = absurd m
-found (x ∷ xs) n member m is = by (nat_eq x.node n) refl
+found (x ∷ xs) n member m is = by (λ more. found xs n member more is) (nat_eq x.node n) refl m
   where
-    rest : (b : Bool) → b ≡ false → nat_eq x.node n ≡ b → Found xs n → Found (x ∷ xs) n
-    rest b none e f = record { member = f.member; inside = inr f.inside; is = ap (λ t. if t then Some x else member_of xs n) (e ∙ none) ∙ f.is; node_is = f.node_is }
-
-    by : (b : Bool) → nat_eq x.node n ≡ b → Found (x ∷ xs) n
-    by true e = record { member = x; inside = inl refl; is = ap (λ t. if t then Some x else member_of xs n) e; node_is = eqb-true x.node n e }
-    by false e = later m
-      where
-        later : Among member (x ∷ xs) → Found (x ∷ xs) n
-        later (inl same) = absurd (let apart : x.node ≢ n = grind (arith, nat_tests, e) in apart (ap (λ (y : Member). y.node) same ∙ is))
-        later (inr more) = rest false refl e (found xs n member more is)
+    by : (Among member xs → Found xs n) → (b : Bool) → nat_eq x.node n ≡ b → Among member (x ∷ xs) → Found (x ∷ xs) n
+    by rest true e k = record { member = x; inside = inl refl; is = ap (λ t. if t then Some x else member_of xs n) e; node_is = eqb-true x.node n e }
+    by rest false e (inl same) = absurd (let apart : x.node ≢ n = grind (arith, nat_tests, e) in apart (ap (λ (y : Member). y.node) same ∙ is))
+    by rest false e (inr more) =
+        let f = rest more in
+        record { member = f.member; inside = inr f.inside; is = ap (λ t. if t then Some x else member_of xs n) e ∙ f.is; node_is = f.node_is }
 
 -- sets of nodes are built alike
 same_set : (nodes : List ℕ) → naming.nodes_as_set nodes ≡ joint_model.nodes_as_set nodes
@@ -97,14 +93,14 @@ module _ {D : Type 0} (on : View D) (plan : Plan) (told : Bool) (few : plan.node
   settled_member member m = subst (λ (x : Membership). IsSettledMember (state_of world) x member) s.same (s.rests.members member (subst (λ (x : Membership). Among member x.members) (sym s.same) m))
 
   pub agree : MembersAgree (slots_disks s.stood.whole.v) members
-  agree = (settled_names_fragments plan told s.stood.whole.story s.stood.whole.v (sound_at on plan told (Showing plan g) world s.stood) (omega (arith, few)) g s.settled members s.exactly).1
+  agree = agrees plan told s.stood.whole.story s.stood.whole.v (sound_at on plan told (Showing plan g) world s.stood) g s.settled members s.exactly
 
   -- what the world tells of the user
   pub names : (user : List ℕ) → NamesFragments (slots_disks s.stood.whole.v) members user (map_seen (maps_in (state_of world) user))
   names user =
       let v = s.stood.whole.v in
       let (manager, managed) = has_manager g user (length_positive (s.stood.whole.charted.mapped g (latest_known on plan world s.stood.whole g latest))) in
-      let f = (settled_names_fragments plan told s.stood.whole.story v (sound_at on plan told (Showing plan g) world s.stood) (omega (arith, few)) g s.settled members s.exactly).0 user manager managed in
+      let f = tells_fragments plan told s.stood.whole.story v (sound_at on plan told (Showing plan g) world s.stood) g s.settled members s.exactly (omega (arith, few)) s.some.0 s.some.1 user manager managed in
       let here = found g.members manager f.member f.among f.same in
       let x = settled_member here.member here.inside in
       let up : of_node lives manager ≡ Some (Up x.node) = ap (of_node lives) (sym here.node_is) ∙ x.up in

@@ -41,12 +41,12 @@ use Rattle.cluster_world.proofs.Formed.{fine_of}
 
 filtered : {X : Type 0} (p : X → Bool) (xs : List X) (x : X) → Among x (filter p xs) → Among x xs
 filtered p [] x m = m
-filtered {X} p (y ∷ ys) x m = by (p y) m
+filtered {X} p (y ∷ ys) x m = by (λ n. filtered p ys x n) (p y) m
   where
-    by : (b : Bool) → Among x (cond b (y ∷ filter p ys) (filter p ys)) → Among x (y ∷ ys)
-    by true (inl same) = inl same
-    by true (inr more) = inr (filtered p ys x more)
-    by false more = inr (filtered p ys x more)
+    by : (Among x (filter p ys) → Among x ys) → (b : Bool) → Among x (cond b (y ∷ filter p ys) (filter p ys)) → Among x (y ∷ ys)
+    by rest true (inl same) = inl same
+    by rest true (inr more) = inr (rest more)
+    by rest false more = inr (rest more)
 
 -- each of the one list is in the other
 abbrev pub AreFewer : List Awaited → List Awaited → Type 0

@@ -36,6 +36,10 @@ use Rattle.joint_world.specs.World.{mail_world_of}
 use Rattle.kept_parts.specs.Kept.{PartsHold}
 use Rattle.settled_logins.specs.Reading.{IsReaderStep, disks_of as slots_disks}
 use Rattle.settled_logins.specs.Settled.{ReadersStand, IsMember, BeganSettled}
+use Rattle.settled_logins.proofs.Beginning.{begins_settled, stays_settled}
+use Rattle.settled_logins.proofs.Listed.{began_lists}
+use Rattle.settled_logins.proofs.Parts.{parts_stay}
+use Rattle.settled_logins.proofs.Readers.{steps_stand}
 use Rattle.standing_model.specs.Standing.{HasExactly, AreStanding}
 use Rattle.node_store.specs.Disks.{View}
 use Rattle.cluster_world.specs.Ended.{IsEnded}
@@ -55,7 +59,6 @@ use Rattle.cluster_world.proofs.Leading.{led_whole}
 use Rattle.cluster_world.proofs.Ordered.{posts_make, order_are}
 use Rattle.cluster_world.proofs.Wholes.{is_of_next}
 use Rattle.settled_worlds.specs.Settled.{IsReaderOutcome}
-use Rattle.settled_worlds.proofs.Below.{reader_steps_stand, logins_begin_settled, began_stays_settled, began_lists_standing, joint_steps_keep_parts}
 use Rattle.settled_worlds.proofs.Carrying.{Has, StepHas, sound_at, leave_ended}
 use Rattle.settled_worlds.proofs.Readers.{AreFewer, fewer_sessions, fewer_after, fewer_after_all, goes_well, ReadsSo, reads_so, leaves_so, asks_so, posts_so}
 
@@ -140,17 +143,17 @@ module _ {D : Type 0} (on : View D) (plan : Plan) (told : Bool) (few : plan.node
       let story = h.whole.story in
       let sound = sound_at on plan told (Reads awaited) old h in
       let reader = reads w l.made in
-      let kept = reader_steps_stand plan told story v w (record { step = whole_step made; outcome = whole_outcome result }) sound g h.holds.stand l.made reader in
+      let kept = steps_stand plan told story v w (record { step = whole_step made; outcome = whole_outcome result }) sound g h.holds.stand l.made reader in
       record {
         next = record {
           of = is_of_next on plan told result made old new h.of is;
           whole = l.whole;
           holds = record {
-            parts = joint_steps_keep_parts plan told story v w (record { step = whole_step made; outcome = whole_outcome result } ∷ []) (omega (arith, few)) (w, l.made, refl) sound h.holds.parts;
+            parts = parts_stay plan told story v w (record { step = whole_step made; outcome = whole_outcome result } ∷ []) (omega (arith, few)) (w, l.made, refl) sound h.holds.parts;
             stand = kept.0;
             disks = kept.1.disks ∙ h.holds.disks;
             logins = λ one m own user given is_login.
-                began_stays_settled plan told story v w (record { step = whole_step made; outcome = whole_outcome result }) sound g h.holds.stand l.made reader one.ticket user (h.holds.logins one m own user given is_login);
+                stays_settled plan told story v w (record { step = whole_step made; outcome = whole_outcome result }) sound g h.holds.stand l.made reader one.ticket user (h.holds.logins one m own user given is_login);
           };
         };
         makes = l.made;
@@ -161,7 +164,7 @@ module _ {D : Type 0} (on : View D) (plan : Plan) (told : Bool) (few : plan.node
       → call_seen begun ≡ Some asked → MakesStep plan told v (whole_step (step.Begin n begun)) (whole_outcome (Ok (said.Begun ticket stirs))) w → (user : List ℕ) (given : Given) → asked ≡ Login user given → BeganSettled told w g ticket user
   begun_so story v w sound stand n member (calls.Login name proof) stirs ticket asked seen makes user given is =
       let same : name ≡ user = same_login name user _ given (same_call _ _ (seen ∙ ap Some is)) in
-      subst (BeganSettled told w g ticket) same (logins_begin_settled plan told story v w sound g stand n member name (proof_seen proof) ticket makes)
+      subst (BeganSettled told w g ticket) same (begins_settled plan told story v w sound g stand n member name (proof_seen proof) ticket makes)
   begun_so story v w sound stand n member (calls.Deliver deliver) stirs ticket asked seen makes user given is = absurd (no_deliver _ user given (seen ∙ ap Some is))
   begun_so story v w sound stand n member (calls.Fetch name id holders from most) stirs ticket asked seen makes user given is = absurd (no_fetch _ name id user given (seen ∙ ap Some is))
   begun_so story v w sound stand n member (calls.Strike name items) stirs ticket asked seen makes user given is = absurd (no_strike name _ user given (seen ∙ ap Some is))
@@ -174,7 +177,7 @@ module _ {D : Type 0} (on : View D) (plan : Plan) (told : Bool) (few : plan.node
   told_so story v w sound parts stand disks ticket user began (answers.Listed login manager asked own) items is makes =
       subst (λ d. AreStanding d members user (map (λ (item : Item). item.id) items)) disks
       (subst (AreStanding (slots_disks v) members user) (same_ids own ∙ ap (map (λ (item : Item). item.id)) (sym (same items (map item_seen own) is)))
-      (began_lists_standing plan told story v w sound (omega (arith, few)) parts g stand ticket user began login manager asked (map copy_seen own) makes members exactly))
+      (began_lists plan told story v w sound (omega (arith, few)) parts g stand ticket user began login manager asked (map copy_seen own) makes members exactly))
     where
       same : (a b : List Item) → Listed a ≡ Listed b → a ≡ b
       same a b e = cc
