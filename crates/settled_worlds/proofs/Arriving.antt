@@ -1,6 +1,6 @@
 -- The world in which a settle ended well: the epoch that it is settled in is that of the members which the outcomes before it show.
-use Rattle.std.proofs.Common.{◌≡◌, ◌≢◌, ◌⊎◌, inl, inr, ⊎_elim, ℕ, zero, suc, ◌≤◌, ◌<◌, Bool, true, false, List, [], ◌∷◌, ◌++◌, length, Option, Some, None, Result, Ok, Err, refl, sym, ap, ◌∙◌, subst, arith}
-use Rattle.std.specs.Prelude.{⊤, All, slice_get}
+use Rattle.std.proofs.Common.{◌≡◌, ◌⊎◌, inr, ℕ, zero, suc, ◌≤◌, Bool, true, false, List, [], ◌∷◌, ◌++◌, length, Some, None, Result, Ok, refl, sym, ap, ◌∙◌, subst, arith}
+use Rattle.std.specs.Prelude.{⊤, All}
 use Rattle.std.proofs.lemmas.Option.{slice_get_within}
 use Rattle.mail_model.specs.Identity.{EpochId}
 use Rattle.mail_model.specs.Plan.{Plan}
@@ -8,13 +8,11 @@ use Rattle.mail_model.specs.Tape.{ClusterOrder as order}
 use Rattle.object_model.specs.Letters.{Member, Membership}
 use Rattle.object_model.specs.Lists.{Among}
 use Rattle.object_model.specs.Sets.{has, nodes_in}
-use Rattle.session_model.specs.Sums.{BookSum}
 use Rattle.cluster_model.specs.Cluster.{set_of_members}
 use Rattle.cluster_model.specs.Starts.{first_membership, first_members}
 use Rattle.whole_world.specs.Regroup.{AreNumbered}
 use Rattle.whole_world.specs.Settled.{IsSettled}
 use Rattle.whole_world.specs.Steps.Step.{ConcludeGroup}
-use Rattle.whole_world.specs.Steps as whole_steps
 use Rattle.whole_world.specs.Sweeps.{IsCharted}
 use Rattle.joint_world.specs.First.{first_world}
 use Rattle.joint_world.specs.Laws.{Stands}
@@ -24,10 +22,9 @@ use Rattle.joint_world.proofs.Opening.{first_all_stand}
 use Rattle.joint_world.proofs.SameStep.{makes_same}
 use Rattle.kept_parts.specs.Kept.{PartsHold}
 use Rattle.settled_logins.proofs.Parts.{parts_stay, worlds_have_parts}
-use Rattle.shown_members.specs.Shown.{ShowsStill, IsTold}
+use Rattle.shown_members.specs.Shown.{ShowsStill}
 use Rattle.shown_members.proofs.Shows.{step_shows, first_shows, settled_shown}
 use Rattle.standing_model.specs.Standing.{HasExactly}
-use Rattle.fresh_sessions.specs.Acts.{nodes_to}
 use Rattle.node_store.specs.Disks.{View}
 use Rattle.whole_node.specs.Starting.{first_map}
 use Rattle.cluster_world.specs.Made.{StepMade}
@@ -35,19 +32,16 @@ use Rattle.cluster_world.specs.Opens.{IsAtBeginning}
 use Rattle.cluster_world.specs.Outcomes.{Outcome, Awaited, Came, Makes, MakesOrder}
 use Rattle.cluster_world.specs.Outcomes.Outcome.{Moved, Settling}
 use Rattle.cluster_world.specs.Owing.{AreOfSessions, IsOfBlind}
-use Rattle.cluster_world.specs.Regroups.{FormsBy, BeginsWithRoom, IsInOrder, FormsInOrder, MakesRegroup, group_is_worn, has_room_for_rounds}
+use Rattle.cluster_world.specs.Regroups.{FormsBy, BeginsWithRoom, IsInOrder, FormsInOrder, group_is_worn, has_room_for_rounds}
 use Rattle.cluster_world.specs.Seen.{whole_step, whole_outcome}
-use Rattle.cluster_world.specs.Settling.{latest_in, IsAtRest, IsSettledIn}
+use Rattle.cluster_world.specs.Settling.{IsSettledIn}
 use Rattle.cluster_world.specs.Turns.{node_refusal}
 use Rattle.cluster_world.specs.Worlds.{state_of, plan_of, life_of, lives_of, disks_tell}
 use Rattle.cluster_world.specs.Lives.{of_node}
 use Rattle.cluster_world.specs.declared.fault.StepFault.{StepFault}
 use Rattle.cluster_world.specs.declared.life.Life.{Life}
-use Rattle.cluster_world.specs.declared.life.Life.TheVariants.{Up}
 use Rattle.cluster_world.specs.declared.regrouping.Regroup.{Regroup}
-use Rattle.cluster_world.specs.declared.regrouping.Regroup.TheVariants.{Formed}
 use Rattle.cluster_world.specs.declared.settling.Settle.TheVariants.{Settled}
-use Rattle.cluster_world.specs.declared.step.Said.{Said}
 use Rattle.cluster_world.specs.declared.step.Step.{Step}
 use Rattle.cluster_world.specs.declared.step.Step.TheVariants as step
 use Rattle.cluster_world.specs.declared.world.World.{World}
@@ -59,10 +53,10 @@ use Rattle.settled_worlds.specs.Settled.{MakesNone, MembersMade}
 use Rattle.settled_worlds.specs.Settled.MembersMade.{AtOpening, ByRegroup}
 use Rattle.shown_members.proofs.Numbering.{steps_number}
 use Rattle.settled_worlds.proofs.Carrying.{Has, Keeps, HasSessions, came_has, makes_have}
-use Rattle.settled_worlds.proofs.Formings.{IsNoConclusion, sessions_conclude_none, one_forms, any_kind, all_kinds, none_concludes, none_conclude}
+use Rattle.settled_worlds.proofs.Formings.{IsNoConclusion, sessions_conclude_none, one_forms, all_kinds, none_concludes, none_conclude}
 use Rattle.settled_worlds.proofs.Members.{exactly_those, first_exactly, member_in}
-use Rattle.settled_worlds.proofs.Parted.{IsKnown, known_front, known_behind, known_first, known_others, sessions_front, sessions_behind, Parted, parted}
-use Rattle.settled_worlds.proofs.Regrouping.{ShowsFormed, shows_formed}
+use Rattle.settled_worlds.proofs.Parted.{IsKnown, known_front, known_behind, known_others, sessions_front, sessions_behind, parted}
+use Rattle.settled_worlds.proofs.Regrouping.{shows_formed}
 use Rattle.settled_worlds.proofs.Resting.{settled_there}
 
 -- What is kept of each world: the parts on deletions and on octets, and the numbers of letters.

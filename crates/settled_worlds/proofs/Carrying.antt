@@ -1,11 +1,10 @@
 -- What each step of the machine keeps stays as a world makes its steps.
-use Rattle.std.proofs.Common.{◌≡◌, ◌⊎◌, inl, inr, ⊎_elim, ℕ, Bool, true, List, [], ◌∷◌, ◌++◌, refl, sym, ap, ◌∙◌, subst}
-use Rattle.std.specs.Prelude.{⊤, Result, Ok, Err}
+use Rattle.std.proofs.Common.{◌≡◌, ◌⊎◌, inl, inr, ⊎_elim, ℕ, Bool, true, List, [], ◌∷◌, refl, sym, subst}
+use Rattle.std.specs.Prelude.{⊤, Result}
 use Rattle.mail_model.specs.Plan.{Plan}
 use Rattle.mail_model.specs.Tape.{ClusterOrder}
 use Rattle.mail_model.specs.Tape.{ClusterOrder as order}
 use Rattle.object_model.specs.Letters.{Number}
-use Rattle.object_model.specs.Lists.{Among}
 use Rattle.call_tickets.specs.declared.call.Call.{Call as WorldCall}
 use Rattle.call_tickets.specs.declared.call.Call.TheVariants as calls
 use Rattle.login_model.specs.Cluster as login
@@ -18,7 +17,7 @@ use Rattle.cluster_world.specs.Ended.{IsEnded}
 use Rattle.cluster_world.specs.Made.{StepMade, MakesSteps}
 use Rattle.cluster_world.specs.Outcomes.{Outcome, Awaited, MakesOrder, Came, Makes, IsLeave}
 use Rattle.cluster_world.specs.Outcomes.Outcome.{Began, Refused, Fell, Broke, Answers, StillPending, Unanswered, GaveUp, Abandoned, KeptUp, Left, Moved, Settling, Mapped}
-use Rattle.cluster_world.specs.Owing.{AreBlind, IsOfBlind, AllBlind, IsOfSession, AreOfSessions}
+use Rattle.cluster_world.specs.Owing.{AreBlind, IsOfBlind, IsOfSession, AreOfSessions}
 use Rattle.cluster_world.specs.Seen.{whole_step, whole_outcome}
 use Rattle.cluster_world.specs.Steps.{IsBlind, IsStep}
 use Rattle.cluster_world.specs.Settling.{AreOfSettle}
@@ -34,6 +33,7 @@ use Rattle.cluster_world.proofs.Mirrors.{IsOf}
 use Rattle.cluster_world.proofs.Ordered.{order_makes, order_are}
 use Rattle.cluster_world.proofs.Quietly.{AreQuiet, moves_quiet, settle_quiet, tick_or}
 use Rattle.cluster_world.proofs.Wholes.{is_of_next}
+use Rattle.settled_worlds.proofs.Parted.{IsKnown, known_first, known_others}
 
 -- each of these steps is of the kind
 abbrev pub AllAre : (Step → Type 0) → List StepMade → Type 0
@@ -147,17 +147,9 @@ module _ {D : Type 0} (on : View D) (plan : Plan) (told : Bool) where
           all_have made old new good (settle_quiet made (subst AreOfSettle are makes.of)) known (subst (λ (l : List StepMade). MakesSteps on l old new) are makes.made) h
       came_has (Mapped user told_map) awaited left old new good known of (told_is, left_is, same) h = same_has old new same h
 
-      pub makes_have : (outcomes : List Outcome) (awaited left : List Awaited) (old new : World D) → AllOfKind Good outcomes → (told ≡ true) ⊎ AllBlind plan.nodes outcomes → AreOfSessions lines outcomes
+      pub makes_have : (outcomes : List Outcome) (awaited left : List Awaited) (old new : World D) → AllOfKind Good outcomes → IsKnown told plan.nodes outcomes → AreOfSessions lines outcomes
           → Makes on outcomes awaited old left new → Has Q old → Has Q new
       makes_have [] awaited left old new good known of (left_is, is) h = same_has old new is h
       makes_have (outcome ∷ more) awaited left old new good known of (between, mid, came, rest) h =
-          makes_have more between left mid new good.1 (others outcome more known) (λ one m. of one (inr m)) rest
-          (came_has outcome awaited between old mid good.0 (first outcome more known) (of outcome (inl refl)) came h)
-        where
-          first : (one : Outcome) (more : List Outcome) → (told ≡ true) ⊎ AllBlind plan.nodes (one ∷ more) → (told ≡ true) ⊎ IsOfBlind plan.nodes one
-          first one more (inl t) = inl t
-          first one more (inr b) = inr b.0
-
-          others : (one : Outcome) (more : List Outcome) → (told ≡ true) ⊎ AllBlind plan.nodes (one ∷ more) → (told ≡ true) ⊎ AllBlind plan.nodes more
-          others one more (inl t) = inl t
-          others one more (inr b) = inr b.1
+          makes_have more between left mid new good.1 (known_others told plan.nodes outcome more known) (λ one m. of one (inr m)) rest
+          (came_has outcome awaited between old mid good.0 (known_first told plan.nodes outcome more known) (of outcome (inl refl)) came h)

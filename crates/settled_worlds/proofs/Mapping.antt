@@ -1,29 +1,27 @@
 -- What a world tells of a map behind a settle: the manager, and exactly the members that hold a fragment.
-use Rattle.std.proofs.Common.{◌≡◌, ◌≢◌, inl, inr, ⊎_elim, ℕ, zero, suc, ◌≤◌, ◌<◌, Bool, true, false, nat_eq, List, [], ◌∷◌, length, Option, Some, None, refl, sym, ap, ◌∙◌, subst, arith, if◌then◌else◌}
-use Rattle.std.specs.Prelude.{slice_get}
+use Rattle.std.proofs.Common.{◌≡◌, ◌≢◌, inl, inr, ℕ, ◌≤◌, ◌<◌, Bool, true, false, nat_eq, List, [], ◌∷◌, length, Some, None, refl, sym, ap, ◌∙◌, subst, arith, if◌then◌else◌}
 use Rattle.std.proofs.Math.Nat.{mod-lt}
 use Rattle.std.proofs.lemmas.Bool.{eqb-true}
 use Rattle.std.proofs.lemmas.Bool.Decides.{nat_tests}
 use Rattle.mail_model.specs.Plan.{Plan}
 use Rattle.mail_model.specs.Record.{Record}
 use Rattle.mail_base.specs.Buckets.{bucket_at, hash_of}
-use Rattle.object_model.specs.Letters.{Member, Membership, MapRow}
+use Rattle.object_model.specs.Letters.{Member, Membership}
 use Rattle.object_model.specs.Lists.{Among}
-use Rattle.object_model.specs.Sets.{nodes_in, with_node}
-use Rattle.cluster_model.specs.Cluster.{set_of_members}
+use Rattle.object_model.specs.Sets.{with_node}
 use Rattle.maps_model.specs.Cluster as maps
 use Rattle.maps_model.specs.Cluster.{manager_of, member_of}
 use Rattle.maps_model.specs.Laws.{named}
 use Rattle.whole_model.specs.Whole as whole
-use Rattle.whole_world.specs.Settled.{IsSettled}
 use Rattle.whole_world.specs.World as whole_world
 use Rattle.whole_world.proofs.Quieting.{place_found}
 use Rattle.joint_model.specs.Joint as joint_model
 use Rattle.joint_model.specs.Joint.{user_named_in}
-use Rattle.joint_world.specs.World.{whole_world_of}
+use Rattle.joint_world.specs.World.{whole_world_of, IsUp}
 use Rattle.settled_logins.specs.Reading.{disks_of as slots_disks}
+use Rattle.settled_logins.specs.Laws.{TellsFragments}
 use Rattle.settled_logins.proofs.Maps.{tells_fragments, agrees}
-use Rattle.standing_model.specs.Standing.{HasExactly, NamesFragments, MembersAgree}
+use Rattle.standing_model.specs.Standing.{NamesFragments, MembersAgree}
 use Rattle.node_maps.specs.Naming as naming
 use Rattle.node_maps.specs.Naming.{named_by, named_within}
 use Rattle.node_maps.specs.Nodes.{node_of}
@@ -31,12 +29,11 @@ use Rattle.node_store.specs.Disks.{View}
 use Rattle.whole_node.specs.declared.node.WholeNode.{WholeNode}
 use Rattle.cluster_world.specs.Lives.{of_node}
 use Rattle.cluster_world.specs.Outcomes.{map_seen}
-use Rattle.cluster_world.specs.Settling.{latest_in, is_live_at, is_live_in, is_live_member, named_at, told_by, told_of, maps_in, IsSettledMember, IsSettledIn}
+use Rattle.cluster_world.specs.Settling.{latest_in, is_live_member, named_at, told_by, told_of, maps_in, IsSettledMember}
 use Rattle.cluster_world.specs.Worlds.{state_of, lives_of}
 use Rattle.cluster_world.specs.declared.life.Life.{Life}
 use Rattle.cluster_world.specs.declared.life.Life.TheVariants.{Up}
 use Rattle.cluster_world.specs.declared.world.World.{World}
-use Rattle.cluster_world.proofs.AtOpening.{up_here}
 use Rattle.cluster_world.proofs.AtRest.{live_test}
 use Rattle.cluster_world.proofs.ReadSlots.{whole_there}
 use Rattle.cluster_world.proofs.Righted.{latest_known}
@@ -95,27 +92,44 @@ module _ {D : Type 0} (on : View D) (plan : Plan) (told : Bool) (few : plan.node
   pub agree : MembersAgree (slots_disks s.stood.whole.v) members
   agree = agrees plan told s.stood.whole.story s.stood.whole.v (sound_at on plan told (Showing plan g) world s.stood) g s.settled members s.exactly
 
-  -- what the world tells of the user
-  pub names : (user : List ℕ) → NamesFragments (slots_disks s.stood.whole.v) members user (map_seen (maps_in (state_of world) user))
-  names user =
+  -- the set that a node names which is up
+  set_at : (user : List ℕ) (manager : ℕ) (node : WholeNode) (seen : joint_model.Node) (disk : List Record) → of_node lives manager ≡ Some (Up node) → IsUp s.stood.whole.v manager seen disk → seen.whole.maps.installed ≡ Some g
+      → naming.nodes_as_set (named_by (node_of node.maps) user) ≡ user_named_in seen.whole.maps user (Some g)
+  set_at user manager node seen disk up there installed =
       let v = s.stood.whole.v in
-      let (manager, managed) = has_manager g user (length_positive (s.stood.whole.charted.mapped g (latest_known on plan world s.stood.whole g latest))) in
-      let f = tells_fragments plan told s.stood.whole.story v (sound_at on plan told (Showing plan g) world s.stood) g s.settled members s.exactly (omega (arith, few)) s.some.0 s.some.1 user manager managed in
-      let here = found g.members manager f.member f.among f.same in
-      let x = settled_member here.member here.inside in
-      let up : of_node lives manager ≡ Some (Up x.node) = ap (of_node lives) (sym here.node_is) ∙ x.up in
-      let live : is_live_member lives g.epoch (member_of g.members manager) ≡ true =
-      ap (is_live_member lives g.epoch) here.is ∙ live_test (of_node lives here.member.node) g.epoch here.member.boot x.node x.own x.up x.boot x.installed x.epoch in
-      let u = whole_up on (state_of world) (whole_world_of v) manager x.node (world.nodes.disk_each ∙ sym world.nodes.all) (as_whole on plan world s.stood.whole) up in
-      let slots_same : whole_world.slot_up u.seen u.disk ≡ whole_world.slot_up f.node.whole f.disk =
-      some_same (whole_world.slot_up u.seen u.disk) (whole_world.slot_up f.node.whole f.disk) (sym u.up ∙ whole_there v.slots manager (joint_model.slot_up f.node f.disk) f.up) in
-      let maps_same : f.node.whole.maps ≡ node_of x.node.maps = ap (λ (y : whole.Node). y.maps) (sym (same_up u.seen f.node.whole (ap (λ (y : whole.Slot). y.life) slots_same))) ∙ u.maps in
-      let installed : (node_of x.node.maps).installed ≡ Some g = ap (λ (y : maps.Node). y.installed) (sym maps_same) ∙ f.installed in
-      let set_is : named_at (of_node lives manager) user ≡ user_named_in f.node.whole.maps user (Some g) =
-      ap (λ o. named_at o user) up ∙ named_so x.node user g installed ∙ ap (λ (y : maps.Node). user_named_in y user (Some g)) (sym maps_same) in
-      let told_is : maps_in (state_of world) user ≡ Some (manager, user_named_in f.node.whole.maps user (Some g)) =
-      ap (told_of lives user) latest ∙ ap (told_by lives g user) managed ∙ ap (λ b. if b then Some (manager, named_at (of_node lives manager) user) else None) live ∙ ap (λ n. Some (manager, n)) set_is in
-      subst (NamesFragments (slots_disks v) members user) (sym (ap map_seen told_is)) (f.names 16 few)
+      let u = whole_up on (state_of world) (whole_world_of v) manager node (world.nodes.disk_each ∙ sym world.nodes.all) (as_whole on plan world s.stood.whole) up in
+      let same : whole_world.slot_up u.seen u.disk ≡ whole_world.slot_up seen.whole disk =
+      some_same (whole_world.slot_up u.seen u.disk) (whole_world.slot_up seen.whole disk) (sym u.up ∙ whole_there v.slots manager (joint_model.slot_up seen disk) there) in
+      let maps_same : seen.whole.maps ≡ node_of node.maps = ap (λ (y : whole.Node). y.maps) (sym (same_up u.seen seen.whole (ap (λ (y : whole.Slot). y.life) same))) ∙ u.maps in
+      named_so node user g (ap (λ (y : maps.Node). y.installed) (sym maps_same) ∙ installed) ∙ ap (λ (y : maps.Node). user_named_in y user (Some g)) (sym maps_same)
     where
       same_up : (a b : whole.Node) → whole.Life.Up a ≡ whole.Life.Up b → a ≡ b
       same_up a b e = cc
+
+  -- what the world tells where the manager is live
+  told_at : (user : List ℕ) (manager set : ℕ) (node : WholeNode) → manager_of g user ≡ Some manager → of_node lives manager ≡ Some (Up node) → is_live_member lives g.epoch (member_of g.members manager) ≡ true
+      → naming.nodes_as_set (named_by (node_of node.maps) user) ≡ set → maps_in (state_of world) user ≡ Some (manager, set)
+  told_at user manager set node managed up live is =
+      ap (told_of lives user) latest ∙ ap (told_by lives g user) managed ∙ ap (λ b. if b then Some (manager, named_at (of_node lives manager) user) else None) live
+      ∙ ap (λ n. Some (manager, n)) (ap (λ o. named_at o user) up ∙ is)
+
+  -- a member is live
+  live_at : (manager : ℕ) (member : Member) → Among member g.members → member_of g.members manager ≡ Some member → is_live_member lives g.epoch (member_of g.members manager) ≡ true
+  live_at manager member m is =
+      let x = settled_member member m in
+      ap (is_live_member lives g.epoch) is ∙ live_test (of_node lives member.node) g.epoch member.boot x.node x.own x.up x.boot x.installed x.epoch
+
+  names_at : (user : List ℕ) (manager : ℕ) → manager_of g user ≡ Some manager → TellsFragments plan s.stood.whole.v g members user manager → NamesFragments (slots_disks s.stood.whole.v) members user (map_seen (maps_in (state_of world) user))
+  names_at user manager managed f =
+      let here = found g.members manager f.member f.among f.same in
+      let x = settled_member here.member here.inside in
+      let up : of_node lives manager ≡ Some (Up x.node) = ap (of_node lives) (sym here.node_is) ∙ x.up in
+      let is = told_at user manager (user_named_in f.node.whole.maps user (Some g)) x.node managed up (live_at manager here.member here.inside here.is) (set_at user manager x.node f.node f.disk up f.up f.installed) in
+      subst (λ o. NamesFragments (slots_disks s.stood.whole.v) members user (map_seen o)) (sym is) (f.names 16 few)
+
+  -- what the world tells of the user
+  pub names : (user : List ℕ) → NamesFragments (slots_disks s.stood.whole.v) members user (map_seen (maps_in (state_of world) user))
+  names user =
+      let (manager, managed) = has_manager g user (length_positive (s.stood.whole.charted.mapped g (latest_known on plan world s.stood.whole g latest))) in
+      names_at user manager managed
+      (tells_fragments plan told s.stood.whole.story s.stood.whole.v (sound_at on plan told (Showing plan g) world s.stood) g s.settled members s.exactly (omega (arith, few)) s.some.0 s.some.1 user manager managed)

@@ -1,5 +1,5 @@
 -- A world that was driven owes of its end what it is promised, once it has settled.
-use Rattle.std.proofs.Common.{◌≡◌, ◌⊎◌, inl, inr, ⊎_elim, ℕ, ◌≤◌, Bool, true, List, [], ◌∷◌, ◌++◌, map, Option, Some, Result, Ok, refl, sym, ap, ◌∙◌, subst, arith}
+use Rattle.std.proofs.Common.{◌≡◌, inl, inr, ⊎_elim, ℕ, ◌≤◌, Bool, true, List, [], ◌∷◌, ◌++◌, map, Option, Some, Ok, refl, sym, ap, ◌∙◌, subst, arith}
 use Rattle.std.specs.Prelude.{All}
 use Rattle.mail_model.specs.Plan.{Plan}
 use Rattle.mail_model.specs.Record.{Record}
@@ -14,9 +14,8 @@ use Rattle.session_model.specs.Calls as model
 use Rattle.session_model.specs.Calls.Call.{Login}
 use Rattle.session_model.specs.Calls.Answer.{Listed}
 use Rattle.session_model.specs.Copies.{AreDisks}
-use Rattle.joint_world.specs.World.{whole_world_of}
 use Rattle.settled_logins.specs.Reading.{disks_of as slots_disks}
-use Rattle.settled_logins.specs.Settled.{ReadersStand, IsMember}
+use Rattle.settled_logins.specs.Settled.{IsMember}
 use Rattle.standing_model.specs.Standing.{AreStanding, NamesFragments, MembersAgree}
 use Rattle.node_store.specs.Disks.{View}
 use Rattle.cluster_world.specs.Lasting.{WasDriven}
@@ -24,20 +23,18 @@ use Rattle.cluster_world.specs.Made.{StepMade}
 use Rattle.cluster_world.specs.Outcomes.{Outcome, Awaited, Came, Makes, map_seen}
 use Rattle.cluster_world.specs.Outcomes.Outcome.{Began, Refused, Fell, Broke, Answers, StillPending, Unanswered, GaveUp, Abandoned, KeptUp, Left, Moved, Settling, Mapped}
 use Rattle.cluster_world.specs.Owing.{AllBlind, AreOfSessions}
-use Rattle.cluster_world.specs.Settling.{maps_in}
-use Rattle.cluster_world.specs.Worlds.{state_of, plan_of, disks_of, disks_tell}
+use Rattle.cluster_world.specs.Worlds.{disks_of, disks_tell}
 use Rattle.cluster_world.specs.declared.settling.Settle.TheVariants.{Settled}
 use Rattle.cluster_world.specs.declared.world.World.{World}
-use Rattle.cluster_world.proofs.Chained.{stays}
-use Rattle.settled_worlds.specs.Settled.{IsReaderOutcome, MembersMade, OwesOutcomes, WorldOwesSettled}
-use Rattle.settled_worlds.proofs.Alike.{AreAlike, alike_back, standing_alike, names_alike, agree_alike}
-use Rattle.settled_worlds.proofs.Arriving.{Showing, SettledAt, arrive, settles}
+use Rattle.settled_worlds.specs.Settled.{IsReaderOutcome, MembersMade, WorldOwesSettled}
+use Rattle.settled_worlds.proofs.Alike.{AreAlike, standing_alike, names_alike, agree_alike}
+use Rattle.settled_worlds.proofs.Arriving.{SettledAt, arrive, settles}
 use Rattle.settled_worlds.proofs.Carrying.{Has}
 use Rattle.settled_worlds.proofs.Mapping.{agree, names}
 use Rattle.settled_worlds.proofs.Members.{member_in}
 use Rattle.settled_worlds.proofs.Parted.{IsKnown, known_front, known_behind, known_first, sessions_front, Parted, parted}
 use Rattle.settled_worlds.proofs.Readers.{AreFewer, fewer_sessions, fewer_after, fewer_after_all}
-use Rattle.settled_worlds.proofs.Reading.{Reads, AllGo, all_go}
+use Rattle.settled_worlds.proofs.Reading.{Reads, all_go}
 use Rattle.settled_worlds.proofs.Telling.{members_alike}
 
 -- ---- a session that asked nothing awaits nothing

@@ -1,6 +1,5 @@
 -- What was made before an outcome, what it was, and what was made behind it.
-use Rattle.std.proofs.Common.{◌≡◌, ◌⊎◌, inl, inr, ℕ, Bool, true, List, [], ◌∷◌, ◌++◌, refl, sym, ap, ◌∙◌, subst}
-use Rattle.object_model.specs.Lists.{Among}
+use Rattle.std.proofs.Common.{◌≡◌, ◌⊎◌, inl, inr, ℕ, Bool, true, List, [], ◌∷◌, ◌++◌, refl}
 use Rattle.object_model.proofs.Lists.{among_front, among_behind}
 use Rattle.node_store.specs.Disks.{View}
 use Rattle.cluster_world.specs.Outcomes.{Outcome, Awaited, Came, Makes}

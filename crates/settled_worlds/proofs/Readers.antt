@@ -1,7 +1,6 @@
 -- Which steps of a world are steps of readers, and what is still awaited behind them.
-use Rattle.std.proofs.Common.{◌≡◌, ◌≢◌, ◌⊎◌, inl, inr, ⊎_elim, ℕ, Bool, true, false, true≢false, List, [], ◌∷◌, filter, Option, Some, None, Result, Ok, Err, refl, sym, ap, ◌∙◌, subst, cond}
-use Rattle.std.specs.Prelude.{⊤, IfOk, All}
-use Rattle.std.proofs.lemmas.List.Elements.{All-head, All-tail}
+use Rattle.std.proofs.Common.{◌≡◌, ◌≢◌, inl, inr, ℕ, Bool, true, false, true≢false, List, [], ◌∷◌, filter, Option, Some, None, Result, Ok, Err, refl, sym, subst, cond}
+use Rattle.std.specs.Prelude.{IfOk}
 use Rattle.mail_model.specs.Plan.{Plan}
 use Rattle.object_model.specs.Letters.{Number}
 use Rattle.object_model.specs.Lists.{Among}
@@ -10,30 +9,26 @@ use Rattle.call_tickets.specs.Seen.{call_seen}
 use Rattle.call_tickets.specs.declared.call.Call.{Call as WorldCall}
 use Rattle.call_tickets.specs.declared.call.Call.TheVariants as calls
 use Rattle.call_tickets.specs.declared.answer.Ask.{Ask}
-use Rattle.cluster_model.specs.Steps.Step.{Begin as MailBegin, Post as MailPost}
 use Rattle.cluster_model.specs.Steps.Said.{Faulted as MailFaulted}
 use Rattle.whole_world.specs.Steps as whole_steps
 use Rattle.whole_world.specs.Steps.{StepOutcome}
 use Rattle.whole_world.specs.Steps.Step.{OfMessages}
 use Rattle.whole_world.specs.Steps.Said.{Told}
 use Rattle.whole_world.specs.Steps.StepOutcome.{Says}
-use Rattle.whole_world.specs.Makes.{MadeStep}
 use Rattle.joint_world.specs.Makes.{MakesStep}
 use Rattle.joint_world.specs.World as joint
 use Rattle.settled_logins.specs.Reading.{GoesWell, IsReaderStep}
 use Rattle.settled_logins.specs.Reading.IsReaderStep.{LogsIn, Fetches, Leaves, Asks, Posts}
 use Rattle.fresh_sessions.specs.Acts.{IsReadCall}
-use Rattle.node_core.specs.Beginning.{call_seen as machine_call}
 use Rattle.cluster_world.specs.Ended.{IsEnded}
 use Rattle.cluster_world.specs.Made.{StepMade, has_failed}
-use Rattle.cluster_world.specs.Outcomes.{Awaited, IsLeave, without_session, awaited_elsewhere, left_after, left_after_all, fallen_in}
+use Rattle.cluster_world.specs.Outcomes.{Awaited, IsLeave, without_session, left_after, left_after_all, fallen_in}
 use Rattle.cluster_world.specs.Seen.{whole_step, whole_said, whole_outcome}
 use Rattle.cluster_world.specs.Steps.{SaysSo}
 use Rattle.cluster_world.specs.declared.fault.StepFault.{StepFault}
 use Rattle.cluster_world.specs.declared.fault.StepFault.TheVariants as fault
 use Rattle.cluster_world.specs.declared.step.Said.{Said}
 use Rattle.cluster_world.specs.declared.step.Said.TheVariants as said
-use Rattle.cluster_world.specs.declared.step.Step.{Step}
 use Rattle.cluster_world.specs.declared.step.Step.TheVariants as step
 use Rattle.cluster_world.proofs.Formed.{fine_of}
 

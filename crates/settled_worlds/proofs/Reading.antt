@@ -1,6 +1,6 @@
 -- While nobody but readers does anything behind a settle, a login that began at a member is answered with what stands.
-use Rattle.std.proofs.Common.{◌≡◌, ◌⊎◌, inl, inr, ⊎_elim, ℕ, ◌≤◌, Bool, true, false, List, [], ◌∷◌, ◌++◌, map, Option, Some, None, Result, Ok, Err, refl, sym, ap, ◌∙◌, subst, arith, if◌then◌else◌}
-use Rattle.std.specs.Prelude.{⊤, All}
+use Rattle.std.proofs.Common.{◌≡◌, inl, inr, ⊎_elim, ℕ, ◌≤◌, Bool, true, false, List, [], ◌∷◌, map, Some, None, Result, Ok, refl, sym, ap, ◌∙◌, subst, arith, if◌then◌else◌}
+use Rattle.std.specs.Prelude.{All}
 use Rattle.std.proofs.lemmas.List.Elements.{All-head, All-tail}
 use Rattle.mail_model.specs.Identity.{Id}
 use Rattle.mail_model.specs.Maildrop.{Given}
@@ -43,8 +43,8 @@ use Rattle.settled_logins.proofs.Readers.{steps_stand}
 use Rattle.standing_model.specs.Standing.{HasExactly, AreStanding}
 use Rattle.node_store.specs.Disks.{View}
 use Rattle.cluster_world.specs.Ended.{IsEnded}
-use Rattle.cluster_world.specs.Made.{StepMade, IsPost, PostsAll, MakesSteps, has_failed}
-use Rattle.cluster_world.specs.Outcomes.{Outcome, Awaited, MakesOrder, Came, Makes, IsLeave}
+use Rattle.cluster_world.specs.Made.{StepMade, IsPost, PostsAll, MakesSteps}
+use Rattle.cluster_world.specs.Outcomes.{Outcome, Awaited, MakesOrder, Came, Makes}
 use Rattle.cluster_world.specs.Outcomes.Outcome.{Began, Refused, Fell, Broke, Answers, StillPending, Unanswered, GaveUp, Abandoned, KeptUp, Left, Moved, Settling, Mapped}
 use Rattle.cluster_world.specs.Regroups.{AllWentOn}
 use Rattle.cluster_world.specs.Seen.{whole_step, whole_outcome}
@@ -60,7 +60,7 @@ use Rattle.cluster_world.proofs.Ordered.{posts_make, order_are}
 use Rattle.cluster_world.proofs.Wholes.{is_of_next}
 use Rattle.settled_worlds.specs.Settled.{IsReaderOutcome}
 use Rattle.settled_worlds.proofs.Carrying.{Has, StepHas, sound_at, leave_ended}
-use Rattle.settled_worlds.proofs.Readers.{AreFewer, fewer_sessions, fewer_after, fewer_after_all, goes_well, ReadsSo, reads_so, leaves_so, asks_so, posts_so}
+use Rattle.settled_worlds.proofs.Readers.{AreFewer, fewer_sessions, fewer_after, fewer_after_all, goes_well, reads_so, leaves_so, asks_so, posts_so}
 
 -- the ids of listed messages, however they are seen
 same_ids : (items : List WorldItem) → map (λ (copy : ListedCopy). copy.id) (map copy_seen items) ≡ map (λ (item : Item). item.id) (map item_seen items)

@@ -1,6 +1,6 @@
 -- A regroup that forms an epoch, as the whole machine makes it: so the nodes then show that epoch.
-use Rattle.std.proofs.Common.{◌≡◌, ◌≢◌, ◌⊎◌, inl, inr, ⊎_elim, ℕ, zero, suc, ◌+◌, ◌-◌, ◌*◌, ◌≤◌, ◌<◌, Bool, true, false, ◌&&◌, ◌||◌, nat_le, nat_lt, List, [], ◌∷◌, ◌++◌, map, length, reverse, Option, Some, None, refl, sym, ap, ◌∙◌, subst, arith, true≢false, if◌then◌else◌}
-use Rattle.std.specs.Prelude.{⊤, MatchBool, Result, Ok, Err, slice_get}
+use Rattle.std.proofs.Common.{◌≡◌, ◌≢◌, ◌⊎◌, inl, inr, ℕ, zero, suc, ◌+◌, ◌-◌, ◌*◌, ◌≤◌, Bool, true, false, ◌&&◌, ◌||◌, nat_le, nat_lt, List, [], ◌∷◌, map, length, reverse, Option, Some, None, refl, sym, ap, ◌∙◌, subst, arith, true≢false, if◌then◌else◌}
+use Rattle.std.specs.Prelude.{⊤, Result, Ok, Err}
 use Rattle.std.specs.List.{list_any}
 use Rattle.std.specs.Option.{option_map}
 use Rattle.std.proofs.lemmas.Bool.{and_parts}
@@ -29,7 +29,6 @@ use Rattle.whole_world.specs.Steps.Said.{Told, Grouped as WholeGrouped, Conclude
 use Rattle.whole_world.specs.Steps.StepOutcome.{Says}
 use Rattle.whole_world.specs.World as whole_world
 use Rattle.whole_world.proofs.Sending.{whole_sent, post_sent}
-use Rattle.node_core.specs.declared.outbox.Why.{Why}
 use Rattle.node_core.specs.declared.outbox.Why.TheVariants as why
 use Rattle.node_store.specs.Disks.{View}
 use Rattle.joint_world.specs.World as joint
@@ -39,7 +38,7 @@ use Rattle.shown_members.specs.Shown.{IsTold}
 use Rattle.shown_members.proofs.Regrouped.{regroup_shows}
 use Rattle.cluster_world.specs.Lives.{of_node}
 use Rattle.cluster_world.specs.Made.{StepMade, MakesSteps, has_failed}
-use Rattle.cluster_world.specs.Regroups.{AllWentOn, posts_behind, sent_in, is_old, was_old, threw_old, ArePosted, AreAllPosted, IsRound, IsSecondRound, IsConclusion, IsInOrder, used_up_in, group_is_worn, has_room_for_rounds}
+use Rattle.cluster_world.specs.Regroups.{AllWentOn, posts_behind, sent_in, is_old, was_old, threw_old, AreAllPosted, IsRound, IsSecondRound, IsConclusion, IsInOrder, used_up_in, group_is_worn, has_room_for_rounds}
 use Rattle.cluster_world.specs.Seen.{whole_step, whole_said, whole_outcome}
 use Rattle.cluster_world.specs.Steps.{IsBlind, IsStep, SaysSo}
 use Rattle.cluster_world.specs.Ended.{IsEnded}
@@ -56,7 +55,7 @@ use Rattle.cluster_world.specs.declared.step.Step.TheVariants as step
 use Rattle.cluster_world.specs.declared.world.World.{World}
 use Rattle.cluster_world.proofs.Formed.{fine_of}
 use Rattle.cluster_world.proofs.Wholes.{as_whole, whole_up}
-use Rattle.settled_worlds.proofs.Carrying.{Has, Keeps, StepHas, sound_at, step_has}
+use Rattle.settled_worlds.proofs.Carrying.{Has, Keeps, sound_at, step_has}
 
 -- a letter is thrown as old in the one where it is in the other
 old_there : (what : Said) → is_old what ≡ true → whole_said what ≡ ThrownOld

@@ -1,18 +1,17 @@
 -- Where disks tell what they hold, the records that they are journals of are those of the machine's slots: of each node that is up.
-use Rattle.std.proofs.Common.{◌≡◌, ℕ, zero, suc, ◌+◌, Bool, true, false, List, [], ◌∷◌, length, map, Option, Some, None, refl, sym, ap, ◌∙◌, subst, arith}
-use Rattle.std.specs.Prelude.{◌&&◌, All, IfSome, is_some, slice_get}
+use Rattle.std.proofs.Common.{◌≡◌, ℕ, zero, suc, ◌+◌, true, false, List, [], ◌∷◌, length, map, Option, Some, None, refl, sym, ap, ◌∙◌, subst, arith}
+use Rattle.std.specs.Prelude.{All, IfSome, is_some, slice_get}
 use Rattle.std.specs.List.{list_all}
 use Rattle.std.proofs.lemmas.Bool.{and_parts}
 use Rattle.mail_model.specs.Plan.{Plan}
 use Rattle.mail_model.specs.Record.{Record, IsJournal, payloads_of}
 use Rattle.mail_model.specs.Grammar.{IsRecord}
 use Rattle.mail_model.proofs.OneRecord.{one_reading}
-use Rattle.object_model.specs.Lists.{Among}
 use Rattle.object_model.specs.Letters.{Membership}
 use Rattle.session_model.specs.Copies.{AreDisks}
 use Rattle.cluster_model.specs.Cluster.{set_of_members}
 use Rattle.joint_model.specs.Joint as joint_model
-use Rattle.joint_world.specs.World.{whole_world_of, mail_world_of}
+use Rattle.joint_world.specs.World.{whole_world_of}
 use Rattle.whole_world.specs.Settled.{IsSettled}
 use Rattle.standing_model.specs.Standing.{HasExactly, disk_at}
 use Rattle.settled_logins.specs.Reading.{disks_of as slots_disks}
@@ -21,7 +20,7 @@ use Rattle.node_store.specs.Disks.{View}
 use Rattle.whole_node.specs.declared.node.WholeNode.{WholeNode}
 use Rattle.cluster_world.specs.Lives.{of_node}
 use Rattle.cluster_world.specs.Sound.{IsWhole}
-use Rattle.cluster_world.specs.Worlds.{state_of, disks_of, lives_of, disks_tell}
+use Rattle.cluster_world.specs.Worlds.{disks_of, lives_of, disks_tell}
 use Rattle.cluster_world.specs.declared.life.Life.TheVariants.{Up}
 use Rattle.cluster_world.specs.declared.world.World.{World}
 use Rattle.cluster_world.proofs.AtOpening.{up_here}
