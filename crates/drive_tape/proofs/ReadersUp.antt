@@ -244,11 +244,11 @@ module _ (plan : Plan) (lives : ℕ → NodeLife) where
       subst (λ (n : ℕ). IsUp (lives n)) (sym (did_node plan before deed said behind did) ∙ ap (λ (s : Session). s.node) one) (up k before at_k (was_on plan deed before behind said did)))
       (λ (other : j ≢ k). up j session (sym (replaced_other old k j before behind at_k other) ∙ ap (λ (l : List Session). session_at l j) (sym is) ∙ at) on)
       (cases_eq j k)
-  acted_up old new (Faults node) entries acted opens up = same_up old new acted.1 up
-  acted_up old new (StillWaits k) entries acted opens up = same_up old new acted.1 up
-  acted_up old new (Leaves k user) entries acted opens up = same_up old new acted.1 up
-  acted_up old new (Makes asked event) entries acted opens up = same_up old new acted.1 up
-  acted_up old new (Abandons k) entries acted opens up = same_up old new acted.1 up
+  acted_up old new (Faults node) entries acted opens up j session at on = same_up old new acted.1 up j session at on
+  acted_up old new (StillWaits k) entries acted opens up j session at on = same_up old new acted.1 up j session at on
+  acted_up old new (Leaves k user) entries acted opens up j session at on = same_up old new acted.1 up j session at on
+  acted_up old new (Makes asked event) entries acted opens up j session at on = same_up old new acted.1 up j session at on
+  acted_up old new (Abandons k) entries acted opens up j session at on = same_up old new acted.1 up j session at on
 
   -- whoever hears a unit is at a node that is up
   pub hears_up : (old new : List Session) (acts : List Act) (outputs : List (List Entry)) → ActedAll plan old acts outputs new → AllUp lives old
