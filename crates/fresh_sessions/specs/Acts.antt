@@ -5,7 +5,6 @@ use Rattle.mail_model.specs.Plan.{Plan}
 use Rattle.mail_model.specs.Maildrop.{Given}
 use Rattle.mail_model.specs.PopReplies.{Item}
 use Rattle.mail_model.specs.Record.{Record}
-use Rattle.mail_model.specs.Tape.{ClusterOrder}
 use Rattle.mail_model.specs.Tape.Protocol.{Pop}
 use Rattle.mail_model.specs.Tape.ClusterOrder.{Flow, Conclude, Regroup, Settle, Maps}
 use Rattle.object_model.specs.Lists.{Among}
