@@ -58,6 +58,7 @@ use Rattle.cluster_world.specs.Rests.{HasRightMaps}
 use Rattle.cluster_world.specs.Settling.{IsAtRest, IsOfSettle, AreOfSettle}
 use Rattle.cluster_world.specs.Settling.IsOfSettle.{Posts, Pushes, Reports}
 use Rattle.fresh_sessions.specs.Kept.{KeepsSettled}
+use Rattle.fresh_sessions.proofs.Kept.{owed_settled_is_kept}
 use Rattle.settled_worlds.specs.Settled.{WorldOwesSettled}
 use Rattle.drive_tape.proofs.AtRest.{ends_at_rest}
 use Rattle.drive_tape.specs.Drive.{HasLetters, NamesTheUp, EndsSettled}
@@ -72,7 +73,6 @@ use Rattle.drive_tape.proofs.LineActs.{begun_is_asked, moved_by_line}
 use Rattle.drive_tape.proofs.OpenedKinds.{driven_kinds}
 use Rattle.drive_tape.proofs.OwnNodes.{own_among}
 use Rattle.drive_tape.proofs.Settled.{whole_run, led_whole, owes_settled}
-use Rattle.drive_tape.proofs.Later.{owed_settled_is_kept}
 
 -- what was begun of what was asked
 were_begun : (stop : Stop) (asked begun lacking : List Asked) → asked ≡ begun ++ lacking → MayLackOne stop lacking → AreBegun stop asked begun
