@@ -27,24 +27,24 @@ use Rattle.drive_tape.specs.Led.{Led, AreLed, AreLedTo, EndsWith, TellsMove, Tel
 use Rattle.drive_tape.specs.Led.TellsMove.{OfSteps, OfSettle, OfMap}
 
 -- the work ended behind a line: no act was begun, and no step more was made
-record NoMore (last : List Act) (rest : List Outcome) : Type 0 where
-  acts : last ≡ []
-  outcomes : rest ≡ []
+pub record NoMore (last : List Act) (rest : List Outcome) : Type 0 where
+  pub acts : last ≡ []
+  pub outcomes : rest ≡ []
 
-ends_clean : (last : List Act) (rest : List Outcome) (lacking : List Asked) (extra : List Made) → EndsWith last rest BehindLine lacking extra → extra ≡ [] → NoMore last rest
+pub ends_clean : (last : List Act) (rest : List Outcome) (lacking : List Asked) (extra : List Made) → EndsWith last rest BehindLine lacking extra → extra ≡ [] → NoMore last rest
 ends_clean [] [] lacking extra ends none = record { acts = refl; outcomes = refl }
 ends_clean [] (outcome ∷ []) lacking extra (untold, lacks, more) none = absurd (let never : ◌≡◌ {A = List Made} (made_of outcome ∷ []) [] = sym more ∙ none in cc)
 ends_clean (Does k (Hears one) ∷ []) (outcome ∷ []) lacking extra (asked, is, nothing, ran_out, more) none = absurd (let never : BehindLine ≡ OutOfMemory = ran_out in cc)
 ends_clean last rest lacking extra ends none = absurd ends
 
 module _ {D : Type 0} (on : View D) where
-  record Parted (own others : List Outcome) (awaited left : List Awaited) (old new : World D) : Type 0 where
-    between : List Awaited
-    mid : World D
-    first : Makes on own awaited old between mid
-    then_more : Makes on others between mid left new
+  pub record Parted (own others : List Outcome) (awaited left : List Awaited) (old new : World D) : Type 0 where
+    pub between : List Awaited
+    pub mid : World D
+    pub first : Makes on own awaited old between mid
+    pub then_more : Makes on others between mid left new
 
-  parted : (own others : List Outcome) (awaited left : List Awaited) (old new : World D) → Makes on (own ++ others) awaited old left new → Parted own others awaited left old new
+  pub parted : (own others : List Outcome) (awaited left : List Awaited) (old new : World D) → Makes on (own ++ others) awaited old left new → Parted own others awaited left old new
   parted [] others awaited left old new makes = record { between = awaited; mid = old; first = (refl, refl); then_more = makes }
   parted (one ∷ own) others awaited left old new (after, next, came, makes) =
       let rest = parted own others after left next new makes in

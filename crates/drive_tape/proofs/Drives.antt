@@ -25,6 +25,7 @@ use Rattle.cluster_world.specs.Outcomes.{Outcome, made_of}
 use Rattle.cluster_world.specs.Worlds.{plan_of, life_of}
 use Rattle.cluster_world.specs.Opens.{IsAtBeginning}
 use Rattle.cluster_world.specs.Owing.{WorldOwes}
+use Rattle.settled_worlds.specs.Settled.{WorldOwesSettled}
 use Rattle.cluster_world.specs.declared.world.World.{World}
 use Rattle.cluster_world.proofs.Chained.{plan_stays, later_after}
 use Rattle.cluster_world.proofs.Leading.{opens_whole}
@@ -288,7 +289,7 @@ behind_none plan been old left acts entries extra new off = absurd off
 
 module _ {D : Type 0} (on : View D) (start : World D) (left0 left1 left2 held0 held1 held2 : Option (List ℕ)) (old : Cluster D) (count room1 room2 from : ℕ) (world : World D) (answer : Drove)
     (p : Progress on start left0 left1 held0 held1 old count room1) (names : NamesLine answer (from + count + 1))
-    (begins : IsAtBeginning on (plan_of start) start) (owing : WorldOwes on) where
+    (begins : IsAtBeginning on (plan_of start) start) (owing : WorldOwes on) (settling : WorldOwesSettled on) where
   module _ (stop : Stop) (midst : List (List ℕ)) (sessions : List Session) (new : List Outcome) (h : Halt on start (plan_of start) p.point held2 world stop midst sessions new)
       (taken others : List ℕ) (took : Consumes left1 left2 taken) (size : room2 + length taken ≡ room1) (parts : taken ≡ flat_map ended midst ++ others) (each : All HasNoLf midst)
       (stops : Stops (stop_of answer) stop (plan_of start) p.point.been sessions midst left2 others room2 (p.point.outcomes ++ new)) where
@@ -331,6 +332,14 @@ module _ {D : Type 0} (on : View D) (start : World D) (left0 left1 left2 held0 h
     nodes_are : AreAtOwnNodes sessions (p.point.outcomes ++ new)
     nodes_are = at_nodes_more p.point.sessions sessions (left_stays (plan_of start) p.point.been stop p.point.sessions sessions midst h.behind h.tail h.extra h.off) p.point.outcomes new p.at_nodes h.at_nodes
 
+    -- behind a line no step more was made, and the nodes are as the acts left them
+    none_more : stop ≡ BehindLine → h.extra ≡ []
+    none_more is = behind_none (plan_of start) p.point.been p.point.sessions midst h.behind h.tail h.extra sessions
+        (subst (λ (s : Stop). IsLeftOff (plan_of start) p.point.been s p.point.sessions midst h.behind h.tail h.extra sessions) is h.off)
+
+    lives_now : (stop ≡ OutOfMemory → ⊥) → AreLives (plan_of start) (joined (p.acts ++ h.behind)) world
+    lives_now not = subst (λ (d : List Act). AreLives (plan_of start) d world) (ap (λ (l : List Act). l ++ joined h.behind) p.been ∙ sym (flat_map-append (λ a. a) p.acts h.behind)) (h.lives not)
+
     pub drives_of : Drives on start left0 left2 held0 held2 answer from world
     unfolding is_driven driven
     drives_of = record {
@@ -361,7 +370,7 @@ module _ {D : Type 0} (on : View D) (start : World D) (left0 left1 left2 held0 h
       steps = h.since.1.made;
       led = led;
       at_nodes = nodes_are;
-      lives = λ not. subst (λ (d : List Act). AreLives (plan_of start) d world) (ap (λ (l : List Act). l ++ joined h.behind) p.been ∙ sym (flat_map-append (λ a. a) p.acts h.behind)) (h.lives not);
+      lives = lives_now;
       none_waits = none_waits on start world begins stop p.handled midst p.acts h.behind _ entries sessions is_driven (p.point.outcomes ++ new) h.since.0 h.since.1.made refl nodes_are
           (λ k among. to_waits k stop (plan_of start) [] [] (joined (p.acts ++ h.behind)) (p.point.outcomes ++ new) h.lacking h.extra led among);
       why = subst (λ (d : List Act). Stops (stop_of answer) stop (plan_of start) d sessions midst left2 others room2 (p.point.outcomes ++ new)) p.been stops;
@@ -373,12 +382,11 @@ module _ {D : Type 0} (on : View D) (start : World D) (left0 left1 left2 held0 h
           (plan_stays on (p.point.outcomes ++ new) [] h.since.0 start world h.since.1.made).0;
       sound = whole_in on start world begins stop p.handled midst p.acts h.behind _ entries sessions is_driven (p.point.outcomes ++ new) h.since.0 h.since.1.made refl nodes_are;
       one_map = one_map_in on start world begins stop p.handled midst p.acts h.behind _ entries sessions is_driven (p.point.outcomes ++ new) h.since.0 h.since.1.made refl nodes_are;
-      maps_right = λ is. maps_right_in on start world begins stop p.handled midst p.acts h.behind _ entries sessions is_driven (p.point.outcomes ++ new) h.since.0 h.since.1.made refl nodes_are h.lacking h.extra led is
-          (behind_none (plan_of start) p.point.been p.point.sessions midst h.behind h.tail h.extra sessions (subst (λ (s : Stop). IsLeftOff (plan_of start) p.point.been s p.point.sessions midst h.behind h.tail h.extra sessions) is h.off));
+      maps_right = λ is. maps_right_in on start world begins stop p.handled midst p.acts h.behind _ entries sessions is_driven (p.point.outcomes ++ new) h.since.0 h.since.1.made refl nodes_are h.lacking h.extra led is (none_more is);
       named = names_in on start world begins stop p.handled midst p.acts h.behind _ entries sessions is_driven (p.point.outcomes ++ new) h.since.0 h.since.1.made refl nodes_are h.lacking h.extra led;
       quiet = stays_whole on (p.point.outcomes ++ new) h.since.0 start world;
       kept = kept_in on start world begins stop p.handled midst p.acts h.behind _ entries sessions is_driven (p.point.outcomes ++ new) h.since.0 h.since.1.made refl nodes_are
-          owing h.lacking linked.0.asked linked.1 linked.0.answered (plan_stays on (p.point.outcomes ++ new) [] h.since.0 start world h.since.1.made).0;
+          owing settling h.lacking h.extra led none_more lives_now linked.0.asked linked.1 linked.0.answered (plan_stays on (p.point.outcomes ++ new) [] h.since.0 start world h.since.1.made).0;
     }
 
 -- a line that is not handled: `end`, one that is no order, or one for whose order memory ran out
@@ -520,12 +528,12 @@ line_why why.ReadFault plan p line stop midst sessions left room new one same at
 pub stops : {D T : Type 0} (on : View D) (start : World D) (left0 left1 left2 held0 held1 held2 : Option (List ℕ)) (old new : Cluster D) (count room1 room2 from : ℕ) (reason : Why) (answer : Drove)
     (p : Progress on start left0 left1 held0 held1 old count room1)
     → (plan : Plan) → plan ≡ plan_of start → Turned {T = T} on start plan p.point (Err reason) left1 left2 room1 room2 held2 old new → stop_of answer ≡ reason → NamesLine answer (from + count + 1)
-    → IsAtBeginning on (plan_of start) start → WorldOwes on → Drives on start left0 left2 held0 held2 answer from new.world
-stops {D} {T} on start left0 left1 left2 held0 held1 held2 old new count room1 room2 from reason answer p plan same turned is names begins owing = ⊎_elim
+    → IsAtBeginning on (plan_of start) start → WorldOwes on → WorldOwesSettled on → Drives on start left0 left2 held0 held2 answer from new.world
+stops {D} {T} on start left0 left1 left2 held0 held1 held2 old new count room1 room2 from reason answer p plan same turned is names begins owing settling = ⊎_elim
     (λ (none : (why : LineStop) × (reason ≡ of_line why) × ReadsLine (Err why) left2 t.taken room2 × (p.point.held ≡ held2) × (new ≡ old)).
     let because = no_line_why none.0 (plan_of start) p.point.been p.point.sessions left2 t.taken room2 (p.point.outcomes ++ []) none.2 in
     subst (λ (cluster : Cluster D). Drives on start left0 left2 held0 held2 answer from cluster.world) (sym none.4)
-    (drives_of on start left0 left1 left2 held0 held1 held2 old count room1 room2 from old.world answer p names begins owing because.stop [] p.point.sessions []
+    (drives_of on start left0 left1 left2 held0 held1 held2 old count room1 room2 from old.world answer p names begins owing settling because.stop [] p.point.sessions []
     (halt_none on start (plan_of start) p.point held2 old because.stop p.shows none.3 because.other because.undenied)
     t.taken t.taken t.took t.size refl (All-nil HasNoLf)
     (subst (λ (r : Why). Stops r because.stop (plan_of start) p.point.been p.point.sessions [] left2 t.taken room2 (p.point.outcomes ++ [])) (sym (is ∙ none.1)) because.stops)))
@@ -533,7 +541,7 @@ stops {D} {T} on start left0 left1 left2 held0 held1 held2 old new count room1 r
     let s = some.3 in
     let because = line_why reason (plan_of start) p.point some.0 s.stop s.midst s.sessions left2 room2 s.new some.2
     (λ none. none_left (plan_of start) p.point.been s.stop p.point.sessions s.midst s.behind s.tail s.extra s.sessions none s.off) s.at_line s.why in
-    drives_of on start left0 left1 left2 held0 held1 held2 old count room1 room2 from new.world answer p names begins owing s.stop s.midst s.sessions s.new
+    drives_of on start left0 left1 left2 held0 held1 held2 old count room1 room2 from new.world answer p names begins owing settling s.stop s.midst s.sessions s.new
     (halt_line on start (plan_of start) p.point some.0 reason held2 new.world s)
     t.taken because.others t.took t.size (some.1 ∙ because.parts) because.each
     (subst (λ (r : Why). Stops r s.stop (plan_of start) p.point.been s.sessions s.midst left2 because.others room2 (p.point.outcomes ++ s.new)) (sym is) because.stops))

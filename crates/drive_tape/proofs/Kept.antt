@@ -1,8 +1,10 @@
 -- A world that was driven keeps what was promised to clients, by its own disks and its own book.
-use Rattle.std.proofs.Common.{◌≡◌, ⊎_elim, inl, inr, ◌≤◌, ℕ, List, [], ◌∷◌, ◌++◌, map, flat_map, All, Option, Some, None, refl, sym, ap, ap₂, ◌∙◌, subst}
+use Rattle.std.proofs.Common.{◌≡◌, ⊎_elim, inl, inr, ◌≤◌, ℕ, true, List, [], ◌∷◌, ◌++◌, map, flat_map, All, Option, Some, None, refl, sym, ap, ap₂, ◌∙◌, subst}
 use Rattle.std.proofs.lemmas.List.{append-nil}
 use Rattle.std.proofs.lemmas.List.Elements.{All-head, All-tail}
+use Rattle.mail_model.specs.Identity.{Id}
 use Rattle.mail_model.specs.Plan.{Plan}
+use Rattle.mail_model.specs.Record.{Record}
 use Rattle.mail_model.specs.Told.{Mail}
 use Rattle.mail_model.specs.Tape.{Protocol, ClusterOrder, tape_order}
 use Rattle.mail_model.specs.Tape.Protocol.{Smtp}
@@ -19,13 +21,13 @@ use Rattle.session_model.specs.Acts.{Act}
 use Rattle.session_model.specs.Acts.Act.{StillWaits}
 use Rattle.session_model.specs.Logs.{Asked, Answered, asked_by, answered_by, asked_in}
 use Rattle.session_model.specs.Turns.{IsAtNode}
-use Rattle.session_model.specs.Run.{Stop, Made, IsDriven}
+use Rattle.session_model.specs.Run.{Stop, Made, IsDriven, IsCutShort}
 use Rattle.session_model.specs.Run.Stop.{BehindLine, Denied, SinkFailed, OutOfMemory}
 use Rattle.session_model.specs.Runs.{Shows}
 use Rattle.session_model.specs.Books.{AreBegun}
 use Rattle.session_model.specs.Owes.{Owes}
 use Rattle.session_model.specs.SoundMails.{IsSoundMail}
-use Rattle.session_model.specs.Kept.{IsEnding}
+use Rattle.session_model.specs.Kept.{IsEnding, KeepsPromises}
 use Rattle.session_model.proofs.InOrder.{kind_there}
 use Rattle.session_model.proofs.Books.{IsCallIn, among_in, call_at}
 use Rattle.session_model.proofs.Owed.{logged}
@@ -51,20 +53,26 @@ use Rattle.cluster_world.proofs.Lasting.{pending_has_letter}
 use Rattle.cluster_world.proofs.Owed.{none_pending}
 use Rattle.cluster_world.proofs.Wholes.{world_is_whole, one_map_per_epoch}
 use Rattle.cluster_world.proofs.Righted.{settled_maps_are_right}
-use Rattle.cluster_world.specs.Lasting.{AllHaveLetters}
+use Rattle.cluster_world.specs.Lasting.{WasDriven, AllHaveLetters}
 use Rattle.cluster_world.specs.Rests.{HasRightMaps}
 use Rattle.cluster_world.specs.Settling.{IsAtRest, IsOfSettle, AreOfSettle}
 use Rattle.cluster_world.specs.Settling.IsOfSettle.{Posts, Pushes, Reports}
+use Rattle.fresh_sessions.specs.Kept.{KeepsSettled}
+use Rattle.fresh_sessions.proofs.Kept.{owed_settled_is_kept}
+use Rattle.settled_worlds.specs.Settled.{WorldOwesSettled}
 use Rattle.drive_tape.proofs.AtRest.{ends_at_rest}
 use Rattle.drive_tape.specs.Drive.{HasLetters, NamesTheUp, EndsSettled}
 use Rattle.drive_tape.specs.Kept.{IsBlindOrder, AreBlindLines, AreToldOrBlind, KeptIn}
 use Rattle.drive_tape.specs.Led.{AreLedTo}
 use Rattle.drive_tape.specs.Points.{IsAtOwnNode, AreAtOwnNodes}
+use Rattle.drive_tape.specs.Worlds.{AreLives}
 use Rattle.drive_tape.proofs.Led.{MayLackOne}
 use Rattle.drive_tape.proofs.NamedUp.{names_the_up}
 use Rattle.drive_tape.proofs.Clocks.{ticked_by}
 use Rattle.drive_tape.proofs.LineActs.{begun_is_asked, moved_by_line}
 use Rattle.drive_tape.proofs.OpenedKinds.{driven_kinds}
+use Rattle.drive_tape.proofs.OwnNodes.{own_among}
+use Rattle.drive_tape.proofs.Settled.{whole_run, led_whole, owes_settled}
 
 -- what was begun of what was asked
 were_begun : (stop : Stop) (asked begun lacking : List Asked) → asked ≡ begun ++ lacking → MayLackOne stop lacking → AreBegun stop asked begun
@@ -160,10 +168,6 @@ made_among : (outcomes : List Outcome) (outcome : Outcome) → Among outcome out
 made_among [] outcome among = absurd among
 made_among (first ∷ outcomes) outcome among = ⊎_elim (λ (same : first ≡ outcome). inl (ap made_of same)) (λ (rest : Among outcome outcomes). inr (made_among outcomes outcome rest)) among
 
-own_among : (sessions : List Session) (outcomes : List Outcome) (outcome : Outcome) → AreAtOwnNodes sessions outcomes → Among outcome outcomes → IsAtOwnNode sessions outcome
-own_among sessions [] outcome all among = absurd among
-own_among sessions (first ∷ outcomes) outcome all among = ⊎_elim (λ (same : first ≡ outcome). subst (IsAtOwnNode sessions) same all.0) (λ (rest : Among outcome outcomes). own_among sessions outcomes outcome all.1 rest) among
-
 module _ {D : Type 0} (on : View D) (start last : World D) (begins : IsAtBeginning on (plan_of start) start)
     (stop : Stop) (handled midst : List (List ℕ)) (acts behind : List (List Act)) (made : List Made) (entries : List Entry) (sessions : List Session)
     (driven : IsDriven (plan_of start) stop handled midst acts behind made entries sessions)
@@ -257,17 +261,30 @@ module _ {D : Type 0} (on : View D) (start last : World D) (begins : IsAtBeginni
       let found = moved_by_line plan stop handled midst acts behind made entries sessions driven asked (subst (Among (Made.Moves asked)) made_are among) in
       subst (IsBlindOrder plan.nodes) found.2 (line_blind plan.nodes lines found.0 blind found.1)))) told
 
+  -- behind a line the promises of a settled epoch are kept
+  keeps_settled : WorldOwesSettled on → (lacking : List Asked) (extra : List Made) → AreLedTo stop plan [] [] done outcomes lacking extra → (stop ≡ BehindLine → extra ≡ []) → ((stop ≡ OutOfMemory → ⊥) → AreLives plan done last)
+      → AreToldOrBlind on start lines → (ending : List Entry) (records : List (List Record)) (filed : Id → Option (List ℕ)) (promises : KeepsPromises plan (disks_tell on.seen last) stop lines (entries ++ ending) (map on.seen (disks_of last)) records filed (book_of last) done begun)
+      → stop ≡ BehindLine → disks_tell on.seen last ≡ true → KeepsSettled plan lines (acts ++ behind) records promises.sessions
+  keeps_settled settling lacking extra led none lives told ending records filed promises is tells =
+      let run = whole_run plan stop handled midst acts behind made entries sessions driven is in
+      let driven_so : WasDriven on plan lines outcomes awaited start last = record { begins = begins; known = known told; makes = steps; sessions = of_sessions } in
+      owed_settled_is_kept plan lines (entries ++ ending) entries (acts ++ behind) records promises.sessions
+      (record { outputs = run.outputs; last = sessions; handled = run.handled; wrote = run.wrote })
+      promises.clients.shown promises.clients.read_mail (promises.answered (λ cut. subst IsCutShort is cut)) promises.logged
+      (owes_settled on start last outcomes awaited steps lines (acts ++ behind) run.outputs sessions run.handled (led_whole plan stop done outcomes lacking extra led is (none is)) at_nodes
+      (lives (λ out. let never : BehindLine ≡ OutOfMemory = sym is ∙ out in cc)) records (settling plan lines outcomes awaited start last records driven_so tells promises.holds))
+
   -- whatever line says why the program ended
-  pub kept_in : WorldOwes on → (lacking : List Asked) → flat_map asked_by done ≡ begun ++ lacking → MayLackOne stop lacking → flat_map answered_by done ≡ flat_map answered_by_outcome outcomes → (plan_of last ≡ plan_of start)
-      → AreToldOrBlind on start lines → (ending : List Entry) → IsEnding ending → KeptIn on last plan stop lines (entries ++ ending) done begun
-  kept_in owing lacking asked_are lack answered_are same told ending ends =
+  pub kept_in : WorldOwes on → WorldOwesSettled on → (lacking : List Asked) (extra : List Made) → AreLedTo stop plan [] [] done outcomes lacking extra → (stop ≡ BehindLine → extra ≡ []) → ((stop ≡ OutOfMemory → ⊥) → AreLives plan done last)
+      → flat_map asked_by done ≡ begun ++ lacking → MayLackOne stop lacking → flat_map answered_by done ≡ flat_map answered_by_outcome outcomes → (plan_of last ≡ plan_of start)
+      → AreToldOrBlind on start lines → (ending : List Entry) → IsEnding ending → KeptIn on last plan stop lines (entries ++ ending) (acts ++ behind) begun
+  kept_in owing settling lacking extra led none lives asked_are lack answered_are same told ending ends =
       let owed = owing plan lines outcomes awaited start last begins (known told) steps of_sessions in
-      record {
-        records = owed.0;
-        promises = owed_is_kept plan (disks_tell on.seen last) stop handled midst acts behind made entries ending sessions (map on.seen (disks_of last)) owed.0 (filed_on owed.0) begun (book_of last) driven ends
-            (were_begun stop (flat_map asked_by done) begun lacking asked_are lack)
-            (subst (λ (l : List Answered). Owes plan (disks_tell on.seen last) lines (map on.seen (disks_of last)) owed.0 (filed_on owed.0) begun l (book_of last)) (sym answered_are) owed.1);
-      }
+      let promises : KeepsPromises plan (disks_tell on.seen last) stop lines (entries ++ ending) (map on.seen (disks_of last)) owed.0 (filed_on owed.0) (book_of last) done begun =
+      owed_is_kept plan (disks_tell on.seen last) stop handled midst acts behind made entries ending sessions (map on.seen (disks_of last)) owed.0 (filed_on owed.0) begun (book_of last) driven ends
+      (were_begun stop (flat_map asked_by done) begun lacking asked_are lack)
+      (subst (λ (l : List Answered). Owes plan (disks_tell on.seen last) lines (map on.seen (disks_of last)) owed.0 (filed_on owed.0) begun l (book_of last)) (sym answered_are) owed.1) in
+      record { records = owed.0; promises = promises; settled = keeps_settled settling lacking extra led none lives told ending owed.0 (filed_on owed.0) promises }
 
   -- where one node is all there is, no session waits
   pub none_waits : ((k : ℕ) → Among (StillWaits k) done → (ticket : Number) × Among (StillPending k ticket) outcomes) → AreToldOrBlind on start lines → plan.nodes ≡ 1 → plan.confirm ≡ 1 → 1 ≤ plan.copies → (k : ℕ) → Among (StillWaits k) done → ⊥

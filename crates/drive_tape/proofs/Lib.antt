@@ -30,6 +30,9 @@ pub mod Settles
 pub mod Reports
 pub mod OpenedKinds
 pub mod Wholes
+pub mod LedSettled
+pub mod ReadersUp
+pub mod Settled
 pub mod Kept
 pub mod Clocks
 pub mod Drives

@@ -50,7 +50,7 @@ acted_kinds plan old new (Leaves k user) entries acted = ap kinds_of acted.1 ∙
 acted_kinds plan old new (Makes order event) entries acted = ap kinds_of acted.1 ∙ sym (append-nil (kinds_of old))
 acted_kinds plan old new (Abandons k) entries acted = ap kinds_of acted.1 ∙ sym (append-nil (kinds_of old))
 
-all_kinds : (plan : Plan) (old new : List Session) (acts : List Act) (outputs : List (List Entry)) → ActedAll plan old acts outputs new → kinds_of new ≡ kinds_of old ++ flat_map opened_by acts
+pub all_kinds : (plan : Plan) (old new : List Session) (acts : List Act) (outputs : List (List Entry)) → ActedAll plan old acts outputs new → kinds_of new ≡ kinds_of old ++ flat_map opened_by acts
 all_kinds plan old new [] [] is = ap kinds_of is ∙ sym (append-nil (kinds_of old))
 all_kinds plan old new (act ∷ acts) (entries ∷ outputs) (mid, acted, more) =
     all_kinds plan mid new acts outputs more ∙ ap (λ (l : List (Protocol × ℕ)). l ++ flat_map opened_by acts) (acted_kinds plan old mid act entries acted)

@@ -1,6 +1,7 @@
 -- Sessions stay at their nodes, and each call began at the node of its session.
 use Rattle.std.proofs.Common.{◌≡◌, ◌≢◌, ◌+◌, ◌-◌, ◌++◌, ◌∷◌, ⊎_elim, ℕ, zero, suc, List, [], Option, Some, None, refl, sym, ap, ◌∙◌, subst, arith}
 use Rattle.std.specs.Prelude.{slice_get, slice_set}
+use Rattle.object_model.specs.Lists.{Among}
 use Rattle.mail_model.specs.Plan.{Plan}
 use Rattle.mail_model.specs.Transcript.{Entry}
 use Rattle.session_model.specs.Sessions.{Session, session_at}
@@ -94,3 +95,8 @@ own_stays old new stay (Mapped user told) own = tt
 pub at_nodes_more : (old new : List Session) → NodesStay old new → (outcomes more : List Outcome) → AreAtOwnNodes old outcomes → AreAtOwnNodes new more → AreAtOwnNodes new (outcomes ++ more)
 at_nodes_more old new stay [] more are later = later
 at_nodes_more old new stay (outcome ∷ outcomes) more are later = (own_stays old new stay outcome are.0, at_nodes_more old new stay outcomes more are.1 later)
+
+-- and of each of them
+pub own_among : (sessions : List Session) (outcomes : List Outcome) (outcome : Outcome) → AreAtOwnNodes sessions outcomes → Among outcome outcomes → IsAtOwnNode sessions outcome
+own_among sessions [] outcome all among = absurd among
+own_among sessions (first ∷ outcomes) outcome all among = ⊎_elim (λ (same : first ≡ outcome). subst (IsAtOwnNode sessions) same all.0) (λ (rest : Among outcome outcomes). own_among sessions outcomes outcome all.1 rest) among

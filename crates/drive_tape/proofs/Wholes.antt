@@ -221,7 +221,7 @@ module _ {D : Type 0} (on : View D) (n now : ℕ) where
       whole_steps steps old mid new (subst (λ (l : List StepMade). MakesSteps on l old mid) are makes.made) (λ one among starts. settle_starts steps one n (subst AreOfSettle are makes.of) among starts) later
   whole_came (Mapped user told) awaited left old mid new came other later = subst (λ (w : World D). IsWhole on n now w new) came.2 later
 
-  whole_makes : (outcomes : List Outcome) (awaited left : List Awaited) (old new : World D) → Makes on outcomes awaited old left new → ((outcome : Outcome) → Among outcome outcomes → StartsAgain n outcome → ⊥)
+  pub whole_makes : (outcomes : List Outcome) (awaited left : List Awaited) (old new : World D) → Makes on outcomes awaited old left new → ((outcome : Outcome) → Among outcome outcomes → StartsAgain n outcome → ⊥)
       → life_of new n ≡ Up now → IsWhole on n now old new
   whole_makes [] awaited left old new (same, is) other up = subst (λ (w : World D). IsWhole on n now old w) (sym is) (whole_none old (subst (λ (w : World D). life_of w n ≡ Up now) is up))
   whole_makes (outcome ∷ more) awaited left old new (between, mid, came, makes) other up =

@@ -192,4 +192,4 @@ pub record Drives {D : Type 0} (on : View D) (start : World D) (left0 left1 held
   pub quiet : StaysWhole on start outcomes awaited last
   -- all promises are kept by the disks and the book of the world that came back, whatever line then says why the program ended
   pub kept : AreToldOrBlind on start (handled ++ midst) → (ending : List Entry) → IsEnding ending
-      → KeptIn on last (plan_of start) stop (handled ++ midst) (entries ++ ending) (flat_map (λ a. a) (acts ++ behind)) (flat_map asked_by_outcome outcomes)
+      → KeptIn on last (plan_of start) stop (handled ++ midst) (entries ++ ending) (acts ++ behind) (flat_map asked_by_outcome outcomes)

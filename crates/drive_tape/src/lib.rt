@@ -125,7 +125,9 @@
 //! says why it went no further; a node went down by itself only where its disk failed, or does not tell what it
 //! holds; and the promises to clients are kept by the disks and the book of the world that came back (`kept`), where
 //! the disks tell what they hold, or no line starts a node or pushes. Then the members that a `regroup` line names are
-//! exactly the nodes that were up (`named`), too.
+//! exactly the nodes that were up (`named`), too. Where the work stopped behind a line and the disks tell what they hold,
+//! what `fresh_sessions` promises of a settled epoch is kept as well: a new session lists exactly what stands, and a map
+//! names exactly the fragments.
 //!
 //! WHAT IT DOES NOT DO
 //!

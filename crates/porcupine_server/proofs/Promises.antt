@@ -21,7 +21,8 @@ use Rattle.session_model.specs.Sessions.{Session}
 use Rattle.session_model.specs.Acts.{Act}
 use Rattle.session_model.specs.Kept.{IsEnding}
 use Rattle.session_model.specs.Run.{Stop, Made, FirstStep, IsLeftOff, MayMiss, IsCutShort}
-use Rattle.session_model.specs.Run.Stop.{Denied}
+use Rattle.session_model.specs.Run.Stop.{BehindLine, Denied}
+use Rattle.fresh_sessions.specs.Kept.{IsRun}
 use Rattle.node_store.specs.Disks.{View}
 use Rattle.cluster_world.specs.Outcomes.{made_of}
 use Rattle.cluster_world.specs.Worlds.{plan_of, disks_tell}
@@ -33,6 +34,7 @@ use Rattle.drive_tape.specs.Parts.{IsCutEntry, IsPartOfLine}
 use Rattle.drive_tape.specs.Drive.{Stops, stop_of}
 use Rattle.drive_tape.specs.Plans.{ReadsHead, PlanStops}
 use Rattle.drive_tape.specs.Kept.{AreBlindLines}
+use Rattle.drive_tape.proofs.Settled.{whole_run}
 use Rattle.porcupine_server.specs.declared.ending.Ending.{Ending}
 use Rattle.porcupine_server.specs.declared.ending.Ending.TheVariants.{Done, Line, Read, Write, Store, NoMemory}
 use Rattle.porcupine_server.specs.Endings.{ending_of, status_of, last_entries, Finishes}
@@ -335,12 +337,35 @@ module _ {D : Type 0} (on : View D) (is_settled : D → Type 0) (stores : Stores
           inr (denied.1, (ran.drives.handled, found.0, found.2, ap (λ (l : List (List ℕ)). ran.drives.handled ++ l) found.1, found.3, found.4)))
           why
 
-  -- the promises, with this last line
-  kept_with : (front : List Entry) → IsEnding front → (all_tell on.seen given ≡ true) ⊎ AreBlindLines (plan_of ran.start).nodes lines
-      → KeepsOver (plan_of ran.start) (all_tell on.seen given) status lines (ran.drives.entries ++ front) (map on.seen given)
-  kept_with front ended_so which =
-      let kept = ran.drives.kept (⊎_elim (λ all. inl (told all)) (λ blind. inr blind) which) front ended_so in
-      subst (λ (l : List D). KeepsOver (plan_of ran.start) (all_tell on.seen l) status lines (ran.drives.entries ++ front) (map on.seen l)) (sym ran.stores) (record {
+  -- at status 0 the work stopped behind a line, and there is no last line
+  ends_at_end : (answer : Drove) → ending ≡ ending_of answer
+      → Stops (stop_of answer) ran.drives.stop (plan_of ran.start) (flat_map (λ a. a) ran.drives.acts) ran.drives.sessions ran.drives.midst ends.left1 ran.drives.others ran.drives.room ran.drives.outcomes
+      → status ≡ 0 → (ran.drives.stop ≡ BehindLine) × (last.front ≡ [])
+  ends_at_end drove.Ended is why zero = (why.0, (last.none (ap last_entries is)).0)
+  ends_at_end drove.ReadFault is why zero = absurd (not_done ending status (λ done. let never : Read ≡ Done = sym is ∙ done in cc) last.says zero)
+  ends_at_end (drove.WriteFault n) is why zero = absurd (not_done ending status (λ done. let never : Write ≡ Done = sym is ∙ done in cc) last.says zero)
+  ends_at_end (drove.BadTape n fault) is why zero = absurd (not_done ending status (λ done. let never : Line n fault ≡ Done = sym is ∙ done in cc) last.says zero)
+  ends_at_end (drove.NoMemory n) is why zero = absurd (not_done ending status (λ done. let never : NoMemory ≡ Done = sym is ∙ done in cc) last.says zero)
+
+  -- then all lines were handled, and what was written is theirs
+  is_run : status ≡ 0 → IsRun (plan_of ran.start) lines (ran.drives.entries ++ last.front) (ran.drives.acts ++ ran.drives.behind)
+  is_run zero =
+      let at_end = ends_at_end ran.answer ran.is ran.drives.why zero in
+      let run = whole_run (plan_of ran.start) ran.drives.stop ran.drives.handled ran.drives.midst ran.drives.acts ran.drives.behind (map made_of ran.drives.outcomes) ran.drives.entries ran.drives.sessions
+      ran.drives.driven at_end.0 in
+      record {
+        outputs = run.outputs;
+        last = ran.drives.sessions;
+        handled = run.handled;
+        wrote = ap (λ (es : List Entry). ran.drives.entries ++ es) at_end.1 ∙ append-nil ran.drives.entries ∙ run.wrote;
+      }
+
+  -- the promises, with the last line
+  kept_with : (all_tell on.seen given ≡ true) ⊎ AreBlindLines (plan_of ran.start).nodes lines
+      → KeepsOver (plan_of ran.start) (all_tell on.seen given) status lines (ran.drives.entries ++ last.front) (map on.seen given)
+  kept_with which =
+      let kept = ran.drives.kept (⊎_elim (λ all. inl (told all)) (λ blind. inr blind) which) last.front last.ends in
+      subst (λ (l : List D). KeepsOver (plan_of ran.start) (all_tell on.seen l) status lines (ran.drives.entries ++ last.front) (map on.seen l)) (sym ran.stores) (record {
         records = kept.records;
         holds = kept.promises.holds;
         sessions = kept.promises.sessions;
@@ -348,6 +373,11 @@ module _ {D : Type 0} (on : View D) (is_settled : D → Type 0) (stores : Stores
         confirmers = kept.promises.confirmers;
         clients = kept.promises.clients;
         answered = λ uncut. kept.promises.answered (whole ran.answer ran.is ran.drives.why uncut);
+        settled = λ zero tells. record {
+          acts = ran.drives.acts ++ ran.drives.behind;
+          run = is_run zero;
+          keeps = kept.settled (ends_at_end ran.answer ran.is ran.drives.why zero).0 tells;
+        };
       })
 
   -- where a line was cut, nothing follows it
@@ -411,7 +441,7 @@ module _ {D : Type 0} (on : View D) (is_settled : D → Type 0) (stores : Stores
               plan_is = go.4 ∙ ap Some (sym ran.opened.begins.plan_is);
             };
             behind = left_over ran.answer ran.is ran.drives.why;
-            promises = kept_with last.front last.ends;
+            promises = kept_with;
           },
         );
       }

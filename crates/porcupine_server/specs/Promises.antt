@@ -18,6 +18,7 @@ use Rattle.session_model.specs.Acts.{Act}
 use Rattle.session_model.specs.Run.{AreHandled}
 use Rattle.session_model.specs.Kept.{KeepsToClients, IsEnding}
 use Rattle.cluster_owes.specs.Held.{filed_on}
+use Rattle.fresh_sessions.specs.Kept.{KeepsSettledOver}
 use Rattle.drive_tape.specs.declared.drove.Drove.{Drove}
 use Rattle.drive_tape.specs.declared.drove.TapeFault.{TapeFault}
 use Rattle.drive_tape.specs.Drive.{IsOrder, IsLineAtMost, StopsAt}
@@ -103,6 +104,9 @@ pub record KeepsOver (plan : Plan) (tells : Bool) (status : ℕ) (lines : List (
   pub confirmers : List (List ℕ)
   pub clients : KeepsToClients plan tells lines entries records (filed_on records) sessions acks confirmers
   pub answered : (IsCut status → ⊥) → AreAnswered sessions
+  -- where the tape was run to its `end` and the stores tell what they hold: a new session behind a settled epoch lists exactly what stands, a map that is then asked for
+  -- names exactly the fragments, and members agree
+  pub settled : status ≡ 0 → tells ≡ true → KeepsSettledOver plan lines entries records sessions
 
 -- The run lines that were handled, all whole lines of what was read but at most one, as the status says: over these, and over the stores that were given back, all is kept
 -- that is promised to clients, where the stores tell what they hold, or no line needs what they hold.

@@ -5,6 +5,7 @@ use Rattle.cluster_world.proofs.Owed.{world_owes}
 use Rattle.drive_tape.proofs.Clusters.{at_plan}
 use Rattle.drive_tape.proofs.Clocks.{on_time}
 use Rattle.drive_tape.proofs.Drives.{progress_start, goes_on, stops}
+use Rattle.settled_worlds.proofs.Owed.{world_owes_settled}
 use Rattle.drive_tape.proofs.driver.drive.Goals as goal
 
 pub loop-handled-init : goal.loop-handled-init
@@ -41,6 +42,7 @@ returns-in-Err-clause-drives g c begins =
     stops _ _ _ _ _ _ _ _ _ _ _ _ _ _ c.in-Err.stop c.at_line.result p (plan_of c.loop-handled.cluster.world) loop.plan
     (c.in-Err.ensures.turned c.args.world p.point (at_plan _ _ _ _ _ _ (sym loop.plan) p.shows) (on_time _ _ _ _ _ _ _ _ _ begins p) p.held_is)
     c.at_line.ensures.stop c.at_line.ensures.number begins (world_owes (view_of g.D.Disk.seen g.D.Disk.faults g.D.Disk.clock) g.met.D.Disk.seen_is_image)
+    (world_owes_settled (view_of g.D.Disk.seen g.D.Disk.faults g.D.Disk.clock))
 
 pub returns-in-Err-clause-read_fault : goal.returns-in-Err-clause-read_fault
 returns-in-Err-clause-read_fault g c begins is =
