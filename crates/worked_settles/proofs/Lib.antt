@@ -23,3 +23,6 @@ pub mod MapsPromise
 pub mod MapsEnd
 pub mod MapsBack
 pub mod WrongMaps
+pub mod RegroupedRun
+pub mod RegroupedEnd
+pub mod RegroupedBack

@@ -120,9 +120,9 @@ module _ (before : List (List ℕ)) (claim : List ℕ → Type 0) (told : ToldMa
 pub maps_back : (told : ToldMap) (acts : List (List Act)) → IsRun worked_plan maps_lines (maps_entries told) acts → TellsMap maps_lines (AreAll worked_plan) acts told
 maps_back told acts run = tells_map stored_lines (AreAll worked_plan) told acts
     (settled_behind worked_plan (AreAll worked_plan) stored_lines (codes "maps alice" ∷ []) (codes "settle") stored_entries (event_entries (HasMapped alice told)) acts refl run
-        (both_pass is_calm stored_entries (Event (codes "settled") ∷ event_entries (HasMapped alice told)) (stored_pass is_calm refl) (calm_map told))
-        (stored_pass is_other refl, other_map told) (shows_all worked_plan stored_lines stored_entries refl)
-        (all_ended worked_plan stored_lines stored_entries storer storer_is refl refl (one_line (closing_text 1)) storer_quits))
+    (both_pass is_calm stored_entries (Event (codes "settled") ∷ event_entries (HasMapped alice told)) (stored_pass is_calm refl) (calm_map told))
+    (stored_pass is_other refl, other_map told) (shows_all worked_plan stored_lines stored_entries refl)
+    (all_ended worked_plan stored_lines stored_entries storer storer_is refl refl (one_line (closing_text 1)) storer_quits))
 
 -- a map of numbers of one digit
 abbrev pub AreDigits : List ℕ → Type 0

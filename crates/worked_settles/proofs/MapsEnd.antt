@@ -1,5 +1,5 @@
 -- What is promised of the tape that ends in a map: the map names what the disks have, and members agree.
-use Rattle.std.proofs.Common.{◌≡◌, ◌↔◌, ◌<◌, inl, inr, ℕ, Bool, true, false, List, [], ◌∷◌, ◌++◌, get_or, flat_map, if◌then◌else◌, Some, None, refl, sym, ap, ◌∙◌, subst, arith, codes, append_assoc, ap₂}
+use Rattle.std.proofs.Common.{◌≡◌, ◌↔◌, ◌<◌, AllPairs, inl, inr, ℕ, Bool, true, false, List, [], ◌∷◌, ◌++◌, flat_map, if◌then◌else◌, Some, None, refl, sym, subst, arith, codes, ap₂}
 use Rattle.std.proofs.lemmas.List.Elements.{All-nil, All-cons}
 use Rattle.std.proofs.lemmas.List.Kept.{AllPairs-cons}
 use Rattle.std.proofs.lemmas.Option.{none-some}
@@ -61,13 +61,16 @@ names_exactly n = (named n, has_it n)
     has_it n (inr (inr (inl is)), on) = absurd (no_fragment (there (HasFragment alice) (Boot 1 ∷ []) (subst (λ (k : ℕ). OnDisk maps_disks k (HasFragment alice)) (sym is) on)))
     has_it n (inr (inr (inr none)), on) = absurd none
 
+pub rising_two : AllPairs (λ (a b : ℕ). a < b) (1 ∷ 2 ∷ [])
+rising_two = AllPairs-cons (λ (a b : ℕ). a < b) 1 (2 ∷ []) (All-cons (λ (b : ℕ). 1 < b) 2 [] (omega arith) (All-nil _)) (AllPairs-cons (λ (a b : ℕ). a < b) 2 [] (All-nil _) (λ i j d low high. absurd (omega (arith, high))))
+
 names : NamesFragments maps_disks three_members alice right_map
 names = record {
   manager = 1;
   nodes = 1 ∷ 2 ∷ [];
   tells = refl;
   member = inl refl;
-  rising = AllPairs-cons (λ (a b : ℕ). a < b) 1 (2 ∷ []) (All-cons (λ (b : ℕ). 1 < b) 2 [] (omega arith) (All-nil _)) (AllPairs-cons (λ (a b : ℕ). a < b) 2 [] (All-nil _) (λ i j d low high. absurd (omega (arith, high))));
+  rising = rising_two;
   exact = names_exactly;
 }
 
