@@ -24,9 +24,9 @@ use Rattle.session_model.specs.Lives.{life_after}
 use Rattle.standing_model.specs.Standing.{OnDisk, HasFragment, NamesFragments}
 use Rattle.fresh_sessions.specs.Acts.ShowsMembers.{ByRegroup}
 use Rattle.fresh_sessions.specs.Kept.{IsRun}
-use Rattle.worked_settles.specs.FreshTape.{worked_plan, told_lines, told_entries, teller}
+use Rattle.worked_settles.specs.FreshTape.{worked_plan, told_lines, told_entries, teller, fresh_disks}
 use Rattle.worked_settles.specs.MapsTape.{ToldMap}
-use Rattle.worked_settles.specs.RegroupedTape.{RefusesAbsentNode, second_epoch, two_members, left_lines, left_acts, left_entries, regrouped_lines, regrouped_entries, regrouped_disks}
+use Rattle.worked_settles.specs.RegroupedTape.{RefusesAbsentNode, second_epoch, two_members, left_lines, left_acts, left_entries, regrouped_lines, regrouped_entries}
 use Rattle.worked_settles.proofs.Behind.{AreParted, IsMoved, part_handled, one_cut, moved_line}
 use Rattle.worked_settles.proofs.Calm.{begins, is_calm}
 use Rattle.worked_settles.proofs.Digits.{digit_three}
@@ -203,7 +203,7 @@ ends_in_three x [] is = inl is
 ends_in_three x (n ∷ nodes) is = ⊎_elim (λ same. inr (inl (omega (arith, same)))) (λ later. inr (inr later)) (ends_in_three (48 + n) nodes is)
 
 -- nodes with disks have one digit
-on_disk_digit : (n : ℕ) → OnDisk regrouped_disks n (HasFragment alice) → Among n (1 ∷ 2 ∷ 3 ∷ [])
+on_disk_digit : (n : ℕ) → OnDisk fresh_disks n (HasFragment alice) → Among n (1 ∷ 2 ∷ 3 ∷ [])
 on_disk_digit zero (records, at, so) = absurd (none-some records at)
 on_disk_digit (suc zero) on = inl refl
 on_disk_digit (suc (suc zero)) on = inr (inl refl)
@@ -221,7 +221,7 @@ last_told : (manager : ℕ) (nodes : List ℕ) → AreDigits nodes → last_of 0
 last_told manager nodes digits =
     ap (last_of 32) (append_assoc (decimal manager) (58 ∷ []) (node_words nodes)) ∙ last_behind 32 (decimal manager) 58 (node_words nodes) ∙ ap (last_of 58) (words_spelt nodes digits)
 
-module _ (members : List ℕ) (other : ToldMap) (names : NamesFragments regrouped_disks members alice other) (same : maps_text alice wrong_map ≡ maps_text alice other) where
+module _ (members : List ℕ) (other : ToldMap) (names : NamesFragments fresh_disks members alice other) (same : maps_text alice wrong_map ≡ maps_text alice other) where
   digits : AreDigits names.nodes
   digits n among = up_to_three n (on_disk_digit n ((names.exact n).0 among).1)
 

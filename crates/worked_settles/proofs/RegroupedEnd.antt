@@ -5,7 +5,6 @@ use Rattle.mail_model.specs.Identity.{Key, State}
 use Rattle.mail_model.specs.Identity.Key.{Message}
 use Rattle.mail_model.specs.Identity.Value.{Here}
 use Rattle.mail_model.specs.Record.{Record}
-use Rattle.mail_model.specs.Record.Record.{Boot, Promise}
 use Rattle.mail_model.specs.Site.{nth_id, nth_stamp}
 use Rattle.mail_model.specs.Transcript.Entry.{Event}
 use Rattle.object_model.specs.Keys.{is_same_key}
@@ -17,24 +16,14 @@ use Rattle.object_model.proofs.StateLaws.{key_is}
 use Rattle.session_model.specs.Events.{event_entries, formed_text}
 use Rattle.session_model.specs.Events.ClusterEvent.{WentDown, HasFormed}
 use Rattle.standing_model.specs.Standing.{OnDisk, HasFragment, NamesFragments, SaysAlike, MembersAgree}
-use Rattle.worked_settles.specs.FreshTape.{teller, filed}
+use Rattle.worked_settles.specs.FreshTape.{teller, fresh_disks}
 use Rattle.worked_settles.specs.MapsTape.{right_map}
-use Rattle.worked_settles.specs.RegroupedTape.{RegroupedTapeIsMet, second_epoch, two_members, left_lines, left_acts, regrouped_disks}
+use Rattle.worked_settles.specs.RegroupedTape.{RegroupedTapeIsMet, second_epoch, two_members, left_lines, left_acts}
 use Rattle.worked_settles.proofs.Digits.{digit_one, digit_two, digit_three}
 use Rattle.worked_settles.proofs.MapsEnd.{rising_two, there, words}
 use Rattle.worked_settles.proofs.MapsPromise.{keeps_where, owes_where}
 use Rattle.worked_settles.proofs.RegroupedRun.{is_regrouped_run, left_members}
-use Rattle.worked_settles.proofs.Standing.{alice}
-
--- the records of each node
-abbrev first_records : List Record
-first_records = Boot 1 ∷ filed 1 3 ++ Promise second_epoch ∷ []
-
-abbrev second_records : List Record
-second_records = Boot 1 ∷ filed 2 6 ++ Promise second_epoch ∷ filed 1 3
-
-abbrev third_records : List Record
-third_records = Boot 1 ∷ filed 2 6
+use Rattle.worked_settles.proofs.Standing.{alice, first_records, second_records, third_records}
 
 -- the keys of both messages, and what is said of them
 abbrev first_key : Key
@@ -50,15 +39,15 @@ abbrev second_state : State
 second_state = record { value = Here; stamp = nth_stamp 2; targets = 6 }
 
 -- each member has a fragment, and so has node 3
-has_fragment : (n : ℕ) → Among n two_members → OnDisk regrouped_disks n (HasFragment alice)
-has_fragment n (inl is) = subst (λ (k : ℕ). OnDisk regrouped_disks k (HasFragment alice)) is (first_records, refl, record { id = nth_id 1; here = refl })
-has_fragment n (inr (inl is)) = subst (λ (k : ℕ). OnDisk regrouped_disks k (HasFragment alice)) is (second_records, refl, record { id = nth_id 1; here = refl })
+has_fragment : (n : ℕ) → Among n two_members → OnDisk fresh_disks n (HasFragment alice)
+has_fragment n (inl is) = subst (λ (k : ℕ). OnDisk fresh_disks k (HasFragment alice)) is (first_records, refl, record { id = nth_id 1; here = refl })
+has_fragment n (inr (inl is)) = subst (λ (k : ℕ). OnDisk fresh_disks k (HasFragment alice)) is (second_records, refl, record { id = nth_id 1; here = refl })
 has_fragment n (inr (inr none)) = absurd none
 
-absent : OnDisk regrouped_disks 3 (HasFragment alice)
+absent : OnDisk fresh_disks 3 (HasFragment alice)
 absent = (third_records, refl, record { id = nth_id 2; here = refl })
 
-names : NamesFragments regrouped_disks two_members alice right_map
+names : NamesFragments fresh_disks two_members alice right_map
 names = record {
   manager = 1;
   nodes = 1 ∷ 2 ∷ [];
@@ -90,51 +79,51 @@ second_says key state = by (is_same_key first_key key) (is_same_key second_key k
     by false false same other is = absurd (none-some state is)
 
 -- both members say the same of the first
-first_alike : (b : ℕ) → Among b two_members → OnDisk regrouped_disks b (SaysAlike first_key first_state)
+first_alike : (b : ℕ) → Among b two_members → OnDisk fresh_disks b (SaysAlike first_key first_state)
 first_alike b (inl is) =
-    subst (λ (k : ℕ). OnDisk regrouped_disks k (SaysAlike first_key first_state)) is
+    subst (λ (k : ℕ). OnDisk fresh_disks k (SaysAlike first_key first_state)) is
     (first_records, refl, record { other = first_state; says = refl; value = refl; stamp = refl; targets = λ n. refl })
 first_alike b (inr (inl is)) =
-    subst (λ (k : ℕ). OnDisk regrouped_disks k (SaysAlike first_key first_state)) is
+    subst (λ (k : ℕ). OnDisk fresh_disks k (SaysAlike first_key first_state)) is
     (second_records, refl, record { other = first_state; says = refl; value = refl; stamp = refl; targets = λ n. refl })
 first_alike b (inr (inr none)) = absurd none
 
 -- and of the second those that are its targets
-second_alike : (b : ℕ) → Among b two_members → has second_state.targets b ≡ true → OnDisk regrouped_disks b (SaysAlike second_key second_state)
+second_alike : (b : ℕ) → Among b two_members → has second_state.targets b ≡ true → OnDisk fresh_disks b (SaysAlike second_key second_state)
 second_alike b (inl is) target = let never : has second_state.targets 1 ≡ true = subst (λ (k : ℕ). has second_state.targets k ≡ true) (sym is) target in cc
 second_alike b (inr (inl is)) target =
-    subst (λ (k : ℕ). OnDisk regrouped_disks k (SaysAlike second_key second_state)) is
+    subst (λ (k : ℕ). OnDisk fresh_disks k (SaysAlike second_key second_state)) is
     (second_records, refl, record { other = second_state; says = refl; value = refl; stamp = refl; targets = λ n. refl })
 second_alike b (inr (inr none)) target = absurd none
 
 -- what is so of a key and a state is so of those that are the same
-at_same : (b : ℕ) (key other : Key) (state said_state : State) → key ≡ other → state ≡ said_state → OnDisk regrouped_disks b (SaysAlike key state) → OnDisk regrouped_disks b (SaysAlike other said_state)
+at_same : (b : ℕ) (key other : Key) (state said_state : State) → key ≡ other → state ≡ said_state → OnDisk fresh_disks b (SaysAlike key state) → OnDisk fresh_disks b (SaysAlike other said_state)
 at_same b key other state said_state same_key same_state alike =
-    subst (λ (k : Key). OnDisk regrouped_disks b (SaysAlike k said_state)) same_key (subst (λ (s : State). OnDisk regrouped_disks b (SaysAlike key s)) same_state alike)
+    subst (λ (k : Key). OnDisk fresh_disks b (SaysAlike k said_state)) same_key (subst (λ (s : State). OnDisk fresh_disks b (SaysAlike key s)) same_state alike)
 
-agree : MembersAgree regrouped_disks two_members
+agree : MembersAgree fresh_disks two_members
 agree a b member member_too key state on target = by a member on
   where
     SaysIt : List Record → Type 0
     SaysIt records = said key records ≡ Some state
 
-    by_first : first_key ≡ key → said first_key first_records ≡ Some state → OnDisk regrouped_disks b (SaysAlike key state)
+    by_first : first_key ≡ key → said first_key first_records ≡ Some state → OnDisk fresh_disks b (SaysAlike key state)
     by_first same is = let e : Some first_state ≡ Some state = is in at_same b first_key key first_state state same (cc e) (first_alike b member_too)
 
-    by_second : (first_key ≡ key) ⊎ (second_key ≡ key) → said key second_records ≡ Some state → OnDisk regrouped_disks b (SaysAlike key state)
+    by_second : (first_key ≡ key) ⊎ (second_key ≡ key) → said key second_records ≡ Some state → OnDisk fresh_disks b (SaysAlike key state)
     by_second (inl same) is = by_first same (subst (λ (k : Key). said k second_records ≡ Some state) (sym same) is)
     by_second (inr same) is =
         let e : Some second_state ≡ Some state = subst (λ (k : Key). said k second_records ≡ Some state) (sym same) is in
         let states : second_state ≡ state = cc e in
         at_same b second_key key second_state state same states (second_alike b member_too (subst (λ (s : State). has s.targets b ≡ true) (sym states) target))
 
-    by : (a : ℕ) → Among a two_members → OnDisk regrouped_disks a SaysIt → OnDisk regrouped_disks b (SaysAlike key state)
+    by : (a : ℕ) → Among a two_members → OnDisk fresh_disks a SaysIt → OnDisk fresh_disks b (SaysAlike key state)
     by a (inl is) on =
-        let says = there SaysIt first_records (subst (λ (k : ℕ). OnDisk regrouped_disks k SaysIt) (sym is) on) in
+        let says = there SaysIt first_records (subst (λ (k : ℕ). OnDisk fresh_disks k SaysIt) (sym is) on) in
         let same = first_says key state says in
         by_first same (subst (λ (k : Key). said k first_records ≡ Some state) (sym same) says)
     by a (inr (inl is)) on =
-        let says = there SaysIt second_records (subst (λ (k : ℕ). OnDisk regrouped_disks k SaysIt) (sym is) on) in
+        let says = there SaysIt second_records (subst (λ (k : ℕ). OnDisk fresh_disks k SaysIt) (sym is) on) in
         by_second (second_says key state says) says
     by a (inr (inr none)) on = absurd none
 
@@ -152,6 +141,6 @@ regrouped_tape_is_met = record {
   names = names;
   agree = agree;
   shows = shows_both;
-  owes = owes_where left_lines left_acts two_members right_map left_members regrouped_disks names agree refl;
-  kept = keeps_where left_lines left_acts two_members right_map left_members regrouped_disks names agree (teller ∷ []);
+  owes = owes_where left_lines left_acts two_members right_map left_members fresh_disks names agree refl;
+  kept = keeps_where left_lines left_acts two_members right_map left_members fresh_disks names agree (teller ∷ []);
 }

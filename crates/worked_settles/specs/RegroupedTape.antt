@@ -1,9 +1,8 @@
 -- A tape that ends in a mail map behind a regroup. Two messages are told, as on the tape that is freshly ended; then node 3 goes down, and node 1 forms an epoch of those
--- that are up. Once the cluster has settled it is asked which nodes have mail of alice. Node 3 has a message of hers on its disk, but is no member any more.
+-- that are up. Once the cluster has settled it is asked which nodes have mail of alice. What the disks say of mail is as it was without the regroup (`fresh_disks`): node 3
+-- has a message of hers, but is no member any more. Which epochs nodes promised is left out there, for it says nothing of mail.
 use Rattle.std.specs.Prelude.{◌≡◌, ℕ, List, [], ◌∷◌, ◌++◌, flat_map, Some, codes}
 use Rattle.mail_model.specs.Identity.{EpochId}
-use Rattle.mail_model.specs.Record.{Record}
-use Rattle.mail_model.specs.Record.Record.{Boot, Promise}
 use Rattle.mail_model.specs.Tape.ClusterOrder.{Crash, Regroup, Settle, Maps}
 use Rattle.mail_model.specs.Transcript.{Entry}
 use Rattle.mail_model.specs.Transcript.Entry.{Event}
@@ -17,7 +16,7 @@ use Rattle.standing_model.specs.Standing.{OnDisk, HasFragment, NamesFragments, M
 use Rattle.fresh_sessions.specs.Acts.{OwesSettled}
 use Rattle.fresh_sessions.specs.Tapes.{EndsInMaps, SettledAgrees}
 use Rattle.fresh_sessions.specs.Kept.{IsRun, KeepsSettled}
-use Rattle.worked_settles.specs.FreshTape.{worked_plan, told_lines, told_acts, told_entries, teller, filed}
+use Rattle.worked_settles.specs.FreshTape.{worked_plan, told_lines, told_acts, told_entries, teller, fresh_disks}
 use Rattle.worked_settles.specs.MapsTape.{ToldMap, right_map}
 
 -- the epoch that node 1 forms, and its members
@@ -51,12 +50,6 @@ regrouped_acts told = left_acts ++ (Makes Settle HasSettled ∷ []) ∷ (Makes (
 abbrev pub regrouped_entries : ToldMap → List Entry
 regrouped_entries told = left_entries ++ event_entries HasSettled ++ event_entries (HasMapped (codes "alice") told)
 
--- What the disks say in the end: message 1 is at nodes 1 and 2, whose mask is 3, and message 2 at nodes 2 and 3, whose mask is 6. Nodes 1 and 2 have promised the epoch.
-abbrev pub regrouped_disks : List (List Record)
-regrouped_disks =
-    (Boot 1 ∷ filed 1 3 ++ Promise second_epoch ∷ []) ∷ (Boot 1 ∷ filed 2 6 ++ Promise second_epoch ∷ filed 1 3)
-    ∷ (Boot 1 ∷ filed 2 6) ∷ []
-
 -- With any map this is a run, its transcript shows the one session, with all that it asked and was answered, and the tape ends in the map, while nodes 1 and 2 are members.
 pub record IsRegroupedRun (told : ToldMap) : Type 0 where
   pub run : IsRun worked_plan regrouped_lines (regrouped_entries told) (regrouped_acts told)
@@ -68,14 +61,14 @@ pub record IsRegroupedRun (told : ToldMap) : Type 0 where
 -- The right map names both members, and not node 3, whose disk has a fragment too. With it the cluster gives what it owes of the end of a run, and the promises are kept.
 pub record RegroupedTapeIsMet : Type 0 where
   pub runs : (told : ToldMap) → IsRegroupedRun told
-  pub absent : OnDisk regrouped_disks 3 (HasFragment (codes "alice"))
-  pub names : NamesFragments regrouped_disks two_members (codes "alice") right_map
-  pub agree : MembersAgree regrouped_disks two_members
+  pub absent : OnDisk fresh_disks 3 (HasFragment (codes "alice"))
+  pub names : NamesFragments fresh_disks two_members (codes "alice") right_map
+  pub agree : MembersAgree fresh_disks two_members
   pub shows : event_entries (WentDown 3) ++ event_entries (HasFormed second_epoch two_members) ≡ Event (codes "node 3 down") ∷ Event (codes "epoch 2.1 members 1 2") ∷ []
-  pub owes : OwesSettled worked_plan regrouped_disks (flat_map (λ a. a) (regrouped_acts right_map))
-  pub kept : KeepsSettled worked_plan regrouped_lines (regrouped_acts right_map) regrouped_disks (teller ∷ [])
+  pub owes : OwesSettled worked_plan fresh_disks (flat_map (λ a. a) (regrouped_acts right_map))
+  pub kept : KeepsSettled worked_plan regrouped_lines (regrouped_acts right_map) fresh_disks (teller ∷ [])
 
 -- Where the map names node 3 too, which is no member, the promise is false, whoever chooses the acts that led to the transcript.
 abbrev pub RefusesAbsentNode : Type 0
 RefusesAbsentNode =
-    (acts : List (List Act)) → IsRun worked_plan regrouped_lines (regrouped_entries (Some (1, 1 ∷ 2 ∷ 3 ∷ []))) acts → SettledAgrees worked_plan regrouped_lines acts regrouped_disks → ⊥
+    (acts : List (List Act)) → IsRun worked_plan regrouped_lines (regrouped_entries (Some (1, 1 ∷ 2 ∷ 3 ∷ []))) acts → SettledAgrees worked_plan regrouped_lines acts fresh_disks → ⊥
