@@ -14,6 +14,8 @@ use Rattle.session_model.specs.Lives.{life_after}
 use Rattle.session_model.specs.Turns.{Turn, Next, ActsGo, Starts, Waits, turn_after_event}
 use Rattle.session_model.specs.Turns.Turn.{Asking}
 use Rattle.session_model.specs.Run.{IsHandled, AreHandled, IsBegun}
+use Rattle.worked_settles.proofs.Formed.{is_quiet}
+use Rattle.worked_settles.proofs.Calm.{quiet_goes}
 use Rattle.worked_settles.proofs.Passes.{passes_inside, passes_both}
 
 -- lines that were handled, in two parts
@@ -76,6 +78,22 @@ cut_once is_other (z ∷ front) (y ∷ front_too) back back_too x x_too same it 
     let rest = cut_once is_other front front_too back back_too x x_too later it (passes_both is_other (y ∷ []) front_too others).1 others_too in
     (ap₂ ◌∷◌ first rest.0, rest.1)
 
+-- and what stands in it once is one
+pub one_cut : {X : Type 0} (is_other : X → Bool) (front front_too back back_too : List X) (x x_too : X) → front ++ x ∷ back ≡ front_too ++ x_too ∷ back_too → is_other x ≡ false
+    → list_all is_other front_too ≡ true → list_all is_other back_too ≡ true → x ≡ x_too
+one_cut is_other [] [] back back_too x x_too same it others others_too = cc
+one_cut is_other [] (y ∷ front_too) back back_too x x_too same it others others_too =
+    let first : x ≡ y = cc in
+    let never : false ≡ true = sym it ∙ ap is_other first ∙ (passes_inside is_other [] front_too y others).1 in
+    cc
+one_cut is_other (z ∷ front) [] back back_too x x_too same it others others_too =
+    let later : front ++ x ∷ back ≡ back_too = cc in
+    let never : false ≡ true = sym it ∙ (passes_inside is_other front back x (ap (list_all is_other) later ∙ others_too)).1 in
+    cc
+one_cut is_other (z ∷ front) (y ∷ front_too) back back_too x x_too same it others others_too =
+    let later : front ++ x ∷ back ≡ front_too ++ x_too ∷ back_too = cc in
+    one_cut is_other front front_too back back_too x x_too later it (passes_both is_other (y ∷ []) front_too others).1 others_too
+
 -- where nobody waits nothing is done once a line has moved the cluster
 none_go : (plan : Plan) (old new : List Session) (acts : List Act) (outputs : List (List Entry)) (last : Turn) → ((j : ℕ) → Waits (session_at old j) → ⊥) → ActsGo plan (Asking 1) old acts outputs last new
     → (acts ≡ []) × (outputs ≡ []) × (new ≡ old)
@@ -98,10 +116,13 @@ none_go plan old new (act ∷ acts) (o ∷ outputs) last never (next, mid, is, a
     by (Makes order event) goes = goes
     by (Abandons j) goes = goes
 
--- A line that moves the cluster: what came of it, and what else it wrote.
+-- A line that moves the cluster: what came of it, what else was done, which forms no epoch, and what else it wrote.
 pub record IsMoved (plan : Plan) (been : List Act) (old new : List Session) (order : ClusterOrder) (acts : List Act) (outputs : List (List Entry)) : Type 0 where
   pub event : ClusterEvent
   pub may : IsEventOf plan (life_after been) order event
+  pub more : List Act
+  pub are : acts ≡ Makes order event ∷ more
+  pub quiet : list_all is_quiet more ≡ true
   pub others : List (List Entry)
   pub wrote : outputs ≡ event_entries event ∷ others
   pub alone : ((j : ℕ) → Waits (session_at old j) → ⊥) → turn_after_event event ≡ Asking 1 → (acts ≡ Makes order event ∷ []) × (others ≡ []) × (new ≡ old)
@@ -111,6 +132,9 @@ pub moved_line : (plan : Plan) (been : List Act) (old new : List Session) (line 
 moved_line plan been old new line order acts outputs handled spelled = record {
   event = starts.0;
   may = starts.1;
+  more = b.more;
+  are = b.acts_are ∙ ap (λ (a : Act). a ∷ b.more) starts.2;
+  quiet = quiet_goes plan b.next handled.last b.mid new b.more b.others b.goes;
   others = b.others;
   wrote = b.outputs_are ∙ ap (λ (e : List Entry). e ∷ b.others) acted.0;
   alone = λ never asks.

@@ -91,7 +91,7 @@ quiet_next (Falling k node onward) next sessions (Makes order event) goes = absu
 quiet_next (Asking k) next sessions (Makes order event) goes = absurd goes
 quiet_next turn next sessions (Abandons k) goes = refl
 
-quiet_goes : (plan : Plan) (turn last : Turn) (old new : List Session) (acts : List Act) (outputs : List (List Entry)) → ActsGo plan turn old acts outputs last new → list_all is_quiet acts ≡ true
+pub quiet_goes : (plan : Plan) (turn last : Turn) (old new : List Session) (acts : List Act) (outputs : List (List Entry)) → ActsGo plan turn old acts outputs last new → list_all is_quiet acts ≡ true
 quiet_goes plan turn last old new [] outputs goes = refl
 quiet_goes plan turn last old new (act ∷ acts) [] goes = absurd goes
 quiet_goes plan turn last old new (act ∷ acts) (entries ∷ outputs) (next, mid, is, acted, later) =

@@ -1,6 +1,6 @@
 -- Whatever acts led to the transcript of the freshly ended tape, and whatever sessions it shows: the tape is freshly ended for its second session, whose third exchange is
 -- the UIDL that the transcript shows.
-use Rattle.std.proofs.Common.{◌≡◌, inl, ◌≤◌, ℕ, Bool, true, List, [], ◌∷◌, ◌++◌, length, Some, refl, sym, ap, ◌∙◌, arith, codes, length-append, take}
+use Rattle.std.proofs.Common.{◌≡◌, inl, ◌≤◌, ℕ, Bool, true, List, [], ◌∷◌, ◌++◌, length, Some, refl, sym, ap, ◌∙◌, subst, arith, codes, length-append, take}
 use Rattle.std.specs.List.{list_all}
 use Rattle.mail_model.specs.Maildrop.{entered_text}
 use Rattle.mail_model.specs.PopReplies.{Item, one_line, ready_text}
@@ -18,14 +18,14 @@ use Rattle.session_model.specs.Sessions.{Session, AreSessions, session_at, IsSes
 use Rattle.session_model.specs.Talk.{Exchange}
 use Rattle.session_model.proofs.Readings.{one_reading}
 use Rattle.fresh_sessions.specs.Kept.{IsRun}
-use Rattle.fresh_sessions.specs.Tapes.{IsFreshlyEnded}
+use Rattle.fresh_sessions.specs.Tapes.{IsFreshlyEnded, IsSettledBehind}
 use Rattle.worked_sessions.proofs.Alike.{Shown, shown_at}
 use Rattle.worked_settles.specs.FreshTape.{worked_plan, three_members, told_lines, told_entries, reader_lines, fresh_lines, fresh_entries, teller, reader, ids_reply, told_acts, message_entries}
 use Rattle.worked_settles.proofs.Calm.{is_calm}
 use Rattle.worked_settles.proofs.Ended.{quit, all_ended}
 use Rattle.worked_settles.proofs.FreshRun.{told_outputs, told_run}
 use Rattle.worked_settles.proofs.FreshEnd.{ends, is_fresh_run}
-use Rattle.worked_settles.proofs.Settled.{HasSettledBehind, is_other, settled_behind}
+use Rattle.worked_settles.proofs.Settled.{HasSettledBehind, AreAll, is_other, shows_all, settled_behind}
 use Rattle.worked_settles.proofs.Shown.{shows}
 use Rattle.worked_settles.proofs.Whole.{AreThree, octets_of, seen_octets, chain_octets, all_seen, three}
 use Rattle.object_model.proofs.Lists.{among_behind}
@@ -37,15 +37,15 @@ use Rattle.session_model.specs.Calls.{unstored_text}
 use Rattle.worked_settles.proofs.Passes.{said_pass, both_pass}
 
 -- the worked session that told the messages, before the settle
-teller_is : IsSession worked_plan told_lines told_entries 1 teller
+pub teller_is : IsSession worked_plan told_lines told_entries 1 teller
 teller_is = (shows worked_plan told_lines told_acts told_outputs (teller ∷ []) told_run).are.each 1 teller refl
 
 -- it said QUIT last
-teller_quits : Among (quit, one_line (closing_text 1)) (views teller.whole)
+pub teller_quits : Among (quit, one_line (closing_text 1)) (views teller.whole)
 teller_quits = among_behind (quit, one_line (closing_text 1)) (views (take 9 teller.whole)) ((quit, one_line (closing_text 1)) ∷ []) (inl refl)
 
 -- what was written before the settle, where digits are spelt so
-abbrev told_with : List ℕ → List ℕ → List ℕ → List ℕ → List ℕ → List Entry
+abbrev pub told_with : List ℕ → List ℕ → List ℕ → List ℕ → List ℕ → List Entry
 told_with a b c d e =
     said_lines 1 (greeting_text 1 ∷ helo_text 1 ∷ []) ++ message_entries ++ said_lines 1 (unstored_text ∷ []) ++ message_entries
     ++ Event (b ++ codes " heard") ∷ Event (c ++ codes " heard") ∷ Event (d ++ codes " heard") ∷ Event (e ++ codes " heard") ∷ said_lines 1 (stored_text ∷ closing_text 1 ∷ []) ++ Event (a ++ codes " closed") ∷ []
@@ -54,7 +54,7 @@ told_spelt : told_entries ≡ told_with (codes "1") (codes "2") (codes "3") (cod
 told_spelt = λ i. told_with (digit_one i) (digit_two i) (digit_three i) (digit_four i) (digit_five i)
 
 -- no fault, and nothing has settled yet
-told_pass : (p : Entry → Bool) → list_all p (told_with (codes "1") (codes "2") (codes "3") (codes "4") (codes "5")) ≡ true → list_all p told_entries ≡ true
+pub told_pass : (p : Entry → Bool) → list_all p (told_with (codes "1") (codes "2") (codes "3") (codes "4") (codes "5")) ≡ true → list_all p told_entries ≡ true
 told_pass p is = ap (list_all p) told_spelt ∙ is
 
 module _ (items : List Item) where
@@ -63,10 +63,10 @@ module _ (items : List Item) where
   reader_entries = said_lines 2 (ready_text 1 1 2 0 ∷ codes "+OK send PASS" ∷ []) ++ event_entries HasFlowed ++ said_lines 2 (entered_text ∷ ids_reply items)
 
   module _ (acts : List (List Act)) (run : IsRun worked_plan fresh_lines (fresh_entries items) acts) where
-    back : HasSettledBehind worked_plan told_lines reader_lines acts reader_entries
-    back = settled_behind worked_plan told_lines reader_lines (codes "settle") told_entries reader_entries acts refl run
+    back : HasSettledBehind worked_plan (AreAll worked_plan) told_lines reader_lines acts reader_entries
+    back = settled_behind worked_plan (AreAll worked_plan) told_lines reader_lines (codes "settle") told_entries reader_entries acts refl run
         (both_pass is_calm told_entries (Event (codes "settled") ∷ reader_entries) (told_pass is_calm refl) (said_pass is_calm 2 (λ text. refl) (ids_reply items)))
-        (told_pass is_other refl, said_pass is_other 2 (λ text. refl) (ids_reply items)) refl
+        (told_pass is_other refl, said_pass is_other 2 (λ text. refl) (ids_reply items)) (shows_all worked_plan told_lines told_entries refl)
         (all_ended worked_plan told_lines told_entries teller teller_is refl refl (one_line (closing_text 1)) teller_quits)
 
     -- The second session, and what it was shown.
@@ -90,7 +90,7 @@ module _ (items : List Item) where
         asking = codes "UIDL";
         ends = ends items;
         since = back.since;
-        settled = back.settled;
+        settled = subst (λ (members : List ℕ). IsSettledBehind worked_plan told_lines acts members back.since) back.claimed back.settled;
         named = parts.first;
         proved = parts.second;
         are = parts.are;

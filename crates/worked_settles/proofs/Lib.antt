@@ -19,6 +19,10 @@ pub mod FreshOwes
 pub mod FreshBack
 pub mod WrongListings
 pub mod MapsRun
+pub mod MapsPromise
 pub mod MapsEnd
 pub mod MapsBack
 pub mod WrongMaps
+pub mod RegroupedRun
+pub mod RegroupedEnd
+pub mod RegroupedBack

@@ -30,7 +30,7 @@ use Rattle.worked_settles.proofs.Calm.{is_calm}
 use Rattle.worked_settles.proofs.Ended.{quit, all_ended}
 use Rattle.worked_settles.proofs.Digits.{digit_one, digit_two}
 use Rattle.worked_settles.proofs.MapsRun.{stored_outputs, stored_run}
-use Rattle.worked_settles.proofs.Settled.{HasSettledBehind, is_other, maps_event, settled_behind}
+use Rattle.worked_settles.proofs.Settled.{HasSettledBehind, AreAll, is_other, maps_event, shows_all, settled_behind}
 use Rattle.worked_settles.proofs.Shown.{shows}
 use Rattle.worked_settles.proofs.Standing.{alice}
 use Rattle.std.specs.Bool.{⊤}
@@ -58,38 +58,39 @@ storer_quits : Among (quit, one_line (closing_text 1)) (views storer.whole)
 storer_quits = among_behind (quit, one_line (closing_text 1)) (views (take 5 storer.whole)) ((quit, one_line (closing_text 1)) ∷ []) (inl refl)
 
 -- a map is no fault, and settles nothing
-calm_map : (told : ToldMap) → list_all is_calm (event_entries (HasMapped alice told)) ≡ true
+pub calm_map : (told : ToldMap) → list_all is_calm (event_entries (HasMapped alice told)) ≡ true
 calm_map None = refl
 calm_map (Some told) = refl
 
-other_map : (told : ToldMap) → list_all is_other (event_entries (HasMapped alice told)) ≡ true
+pub other_map : (told : ToldMap) → list_all is_other (event_entries (HasMapped alice told)) ≡ true
 other_map None = refl
 other_map (Some told) = refl
 
--- What the acts of a run with this transcript tell of the map.
-pub record TellsMap (acts : List (List Act)) (told : ToldMap) : Type 0 where
+-- What the acts of a run of these lines, which end in a map, tell of it.
+pub record TellsMap (lines : List (List ℕ)) (claim : List ℕ → Type 0) (acts : List (List Act)) (told : ToldMap) : Type 0 where
+  pub members : List ℕ
+  pub claimed : claim members
   pub other : ToldMap
-  pub ends : EndsInMaps worked_plan maps_lines acts three_members alice other
+  pub ends : EndsInMaps worked_plan lines acts members alice other
   pub same : maps_text alice told ≡ maps_text alice other
 
 -- the text of an event
-abbrev text_in : List Entry → List ℕ
+abbrev pub text_in : List Entry → List ℕ
 text_in (Event text ∷ entries) = text
 text_in entries = []
 
-module _ (told : ToldMap) (acts : List (List Act)) (run : IsRun worked_plan maps_lines (maps_entries told) acts) where
-  back : HasSettledBehind worked_plan stored_lines (codes "maps alice" ∷ []) acts (event_entries (HasMapped alice told))
-  back = settled_behind worked_plan stored_lines (codes "maps alice" ∷ []) (codes "settle") stored_entries (event_entries (HasMapped alice told)) acts refl run
-      (both_pass is_calm stored_entries (Event (codes "settled") ∷ event_entries (HasMapped alice told)) (stored_pass is_calm refl) (calm_map told))
-      (stored_pass is_other refl, other_map told) refl
-      (all_ended worked_plan stored_lines stored_entries storer storer_is refl refl (one_line (closing_text 1)) storer_quits)
+-- behind the settle, the acts tell a map
+module _ (before : List (List ℕ)) (claim : List ℕ → Type 0) (told : ToldMap) (acts : List (List Act))
+    (back : HasSettledBehind worked_plan claim before (codes "maps alice" ∷ []) acts (event_entries (HasMapped alice told))) where
+  abbrev lines : List (List ℕ)
+  lines = before ++ codes "settle" ∷ codes "maps alice" ∷ []
 
-  pub maps_back : TellsMap acts told
-  maps_back = by back.since back.others back.handled back.settled back.wrote
+  pub tells_map : TellsMap lines claim acts told
+  tells_map = by back.since back.others back.handled back.settled back.wrote
     where
       by : (since : List (List Act)) (others : List (List (List Entry)))
           → AreHandled worked_plan (flat_map (λ a. a) back.settled.front ++ Makes Settle HasSettled ∷ []) back.mid (codes "maps alice" ∷ []) since others back.last
-          → IsSettledBehind worked_plan stored_lines acts three_members since → event_entries (HasMapped alice told) ≡ flat_map all_of others → TellsMap acts told
+          → IsSettledBehind worked_plan before acts back.members since → event_entries (HasMapped alice told) ≡ flat_map all_of others → TellsMap lines claim acts told
       by [] others handled settled wrote = absurd handled
       by (a ∷ since) [] handled settled wrote = absurd handled
       by (a ∷ b ∷ since) (o ∷ []) (mid, is, more) settled wrote = absurd more
@@ -101,18 +102,27 @@ module _ (told : ToldMap) (acts : List (List Act)) (run : IsRun worked_plan maps
           let (other, event_is) = maps_event worked_plan (life_after been) alice moved.event moved.may in
           let alone = moved.alone back.ended.1 (ap turn_after_event event_is) in
           record {
+            members = back.members;
+            claimed = back.claimed;
             other = other;
             ends = record {
-              before = stored_lines;
+              before = before;
               settles = codes "settle";
               asks = codes "maps alice";
               are = refl;
               settle = refl;
               ask = refl;
-              settled = subst (λ (l : List Act). IsSettledBehind worked_plan stored_lines acts three_members (l ∷ [])) (alone.0 ∙ ap (λ (e : ClusterEvent). Makes (Maps alice) e ∷ []) event_is) settled;
+              settled = subst (λ (l : List Act). IsSettledBehind worked_plan before acts back.members (l ∷ [])) (alone.0 ∙ ap (λ (e : ClusterEvent). Makes (Maps alice) e ∷ []) event_is) settled;
             };
             same = ap text_in (wrote ∙ ap (λ (l : List (List Entry)). all_of l ++ []) (moved.wrote ∙ ap (λ (e : ClusterEvent). event_entries e ∷ moved.others) event_is));
           }
+
+pub maps_back : (told : ToldMap) (acts : List (List Act)) → IsRun worked_plan maps_lines (maps_entries told) acts → TellsMap maps_lines (AreAll worked_plan) acts told
+maps_back told acts run = tells_map stored_lines (AreAll worked_plan) told acts
+    (settled_behind worked_plan (AreAll worked_plan) stored_lines (codes "maps alice" ∷ []) (codes "settle") stored_entries (event_entries (HasMapped alice told)) acts refl run
+    (both_pass is_calm stored_entries (Event (codes "settled") ∷ event_entries (HasMapped alice told)) (stored_pass is_calm refl) (calm_map told))
+    (stored_pass is_other refl, other_map told) (shows_all worked_plan stored_lines stored_entries refl)
+    (all_ended worked_plan stored_lines stored_entries storer storer_is refl refl (one_line (closing_text 1)) storer_quits))
 
 -- a map of numbers of one digit
 abbrev pub AreDigits : List ℕ → Type 0
@@ -123,11 +133,11 @@ IsOfDigits None = ⊤
 IsOfDigits (Some told) = (told.0 < 10) × AreDigits told.1
 
 -- numbers of one digit, each behind a space
-abbrev spelt : List ℕ → List ℕ
+abbrev pub spelt : List ℕ → List ℕ
 spelt [] = []
 spelt (n ∷ nodes) = 32 ∷ (48 + n) ∷ spelt nodes
 
-words_spelt : (nodes : List ℕ) → AreDigits nodes → node_words nodes ≡ spelt nodes
+pub words_spelt : (nodes : List ℕ) → AreDigits nodes → node_words nodes ≡ spelt nodes
 words_spelt [] small = refl
 words_spelt (n ∷ nodes) small = ap₂ (λ (d more : List ℕ). (codes " " ++ d) ++ more) (decimal_digit n (small n (inl refl))) (words_spelt nodes (λ m among. small m (inr among)))
 
@@ -167,7 +177,7 @@ member_digit n (inr (inr (inr none))) = absurd none
 pub refuses_map : (disks : List (List Record)) (told : ToldMap) → IsOfDigits told → (NamesFragments disks three_members alice told → MembersAgree disks three_members → ⊥) → RefusesMap disks told
 refuses_map disks told small wrong acts run agrees =
     let t = maps_back told acts run in
-    let (names, agree) = agrees three_members alice t.other t.ends in
+    let (names, agree) = subst (λ (members : List ℕ). NamesFragments disks members alice t.other × MembersAgree disks members) t.claimed (agrees t.members alice t.other t.ends) in
     let digits : IsOfDigits t.other =
     subst IsOfDigits (sym names.tells) (member_digit names.manager names.member, λ n among. member_digit n ((names.exact n).0 among).0) in
     wrong (subst (NamesFragments disks three_members alice) (sym (one_map told t.other small digits t.same)) names) agree

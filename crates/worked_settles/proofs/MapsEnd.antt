@@ -1,6 +1,5 @@
 -- What is promised of the tape that ends in a map: the map names what the disks have, and members agree.
-use Rattle.std.proofs.Common.{◌≡◌, ◌↔◌, ◌<◌, inl, inr, ℕ, Bool, true, false, List, [], ◌∷◌, ◌++◌, get_or, flat_map, if◌then◌else◌, Some, None, refl, sym, ap, ◌∙◌, subst, arith, codes, append_assoc, ap₂}
-use Rattle.std.specs.List.{list_all}
+use Rattle.std.proofs.Common.{◌≡◌, ◌↔◌, ◌<◌, AllPairs, inl, inr, ℕ, Bool, true, false, List, [], ◌∷◌, ◌++◌, flat_map, if◌then◌else◌, Some, None, refl, sym, subst, arith, codes, ap₂}
 use Rattle.std.proofs.lemmas.List.Elements.{All-nil, All-cons}
 use Rattle.std.proofs.lemmas.List.Kept.{AllPairs-cons}
 use Rattle.std.proofs.lemmas.Option.{none-some}
@@ -10,28 +9,21 @@ use Rattle.mail_model.specs.Identity.Value.{Here}
 use Rattle.mail_model.specs.Record.{Record}
 use Rattle.mail_model.specs.Record.Record.{Boot}
 use Rattle.mail_model.specs.Site.{nth_id, nth_stamp}
-use Rattle.mail_model.specs.Tape.{tape_order}
-use Rattle.mail_model.specs.Tape.Order.{Say, Moves}
-use Rattle.mail_model.specs.Tape.Protocol.{Pop}
-use Rattle.mail_model.specs.Tape.ClusterOrder.{Settle, Maps}
 use Rattle.object_model.specs.Keys.{is_same_key}
 use Rattle.object_model.specs.Lists.{Among}
 use Rattle.object_model.specs.Said.{said}
 use Rattle.object_model.specs.Sets.{has}
-use Rattle.session_model.specs.Acts.{Act}
-use Rattle.session_model.specs.Acts.Act.{Opens, Makes}
 use Rattle.session_model.specs.Events.{event_entries, node_words}
-use Rattle.session_model.specs.Events.ClusterEvent.{HasSettled, HasMapped}
-use Rattle.session_model.proofs.Cuts.{one_end}
+use Rattle.session_model.specs.Events.ClusterEvent.{HasMapped}
 use Rattle.standing_model.specs.Standing.{OnDisk, HasFragment, NamesFragments, SaysAlike, MembersAgree}
-use Rattle.fresh_sessions.specs.Acts.{OwesSettled}
-use Rattle.fresh_sessions.specs.Tapes.{FreshListsAll, SettledAgrees}
+use Rattle.fresh_sessions.specs.Acts.{ShowsMembers}
+use Rattle.fresh_sessions.specs.Acts.ShowsMembers.{AtOpening}
 use Rattle.worked_settles.specs.FreshTape.{worked_plan, three_members, filed}
-use Rattle.worked_settles.specs.MapsTape.{MapsTapeIsMet, ToldMap, stored_lines, maps_lines, stored_acts, maps_acts, storer, maps_disks, right_map}
-use Rattle.worked_settles.proofs.Formed.{is_quiet, none_formed, quiet_front, opening_members}
-use Rattle.worked_settles.proofs.Passes.{passes_inside}
+use Rattle.worked_settles.specs.MapsTape.{MapsTapeIsMet, stored_lines, stored_acts, storer, maps_disks, right_map}
+use Rattle.worked_settles.proofs.Formed.{none_formed}
 use Rattle.worked_settles.proofs.Digits.{digit_one, digit_two}
 use Rattle.worked_settles.proofs.MapsRun.{is_maps_run}
+use Rattle.worked_settles.proofs.MapsPromise.{keeps_where, owes_where}
 use Rattle.worked_settles.proofs.Standing.{alice}
 use Rattle.mail_model.specs.Transcript.{Entry}
 use Rattle.mail_model.specs.Transcript.Entry.{Event}
@@ -69,13 +61,16 @@ names_exactly n = (named n, has_it n)
     has_it n (inr (inr (inl is)), on) = absurd (no_fragment (there (HasFragment alice) (Boot 1 ∷ []) (subst (λ (k : ℕ). OnDisk maps_disks k (HasFragment alice)) (sym is) on)))
     has_it n (inr (inr (inr none)), on) = absurd none
 
+pub rising_two : AllPairs (λ (a b : ℕ). a < b) (1 ∷ 2 ∷ [])
+rising_two = AllPairs-cons (λ (a b : ℕ). a < b) 1 (2 ∷ []) (All-cons (λ (b : ℕ). 1 < b) 2 [] (omega arith) (All-nil _)) (AllPairs-cons (λ (a b : ℕ). a < b) 2 [] (All-nil _) (λ i j d low high. absurd (omega (arith, high))))
+
 names : NamesFragments maps_disks three_members alice right_map
 names = record {
   manager = 1;
   nodes = 1 ∷ 2 ∷ [];
   tells = refl;
   member = inl refl;
-  rising = AllPairs-cons (λ (a b : ℕ). a < b) 1 (2 ∷ []) (All-cons (λ (b : ℕ). 1 < b) 2 [] (omega arith) (All-nil _)) (AllPairs-cons (λ (a b : ℕ). a < b) 2 [] (All-nil _) (λ i j d low high. absurd (omega (arith, high))));
+  rising = rising_two;
   exact = names_exactly;
 }
 
@@ -112,82 +107,18 @@ agree a b member member_too key state on target = by a member on b member_too ta
     by a member on b (inr (inr (inl is))) target = absurd (no_third (says a member on) (subst (λ (k : ℕ). has state.targets k ≡ true) (sym is) target))
     by a member on b (inr (inr (inr none))) target = absurd none
 
--- the map that an act tells
-abbrev map_in : Act → ToldMap
-map_in (Makes order (HasMapped user told)) = told
-map_in act = None
-
--- and whose it is
-abbrev user_in : Act → List ℕ
-user_in (Makes (Maps user) event) = user
-user_in act = []
-
-module _ (told : ToldMap) where
-  abbrev acts : List Act
-  acts = flat_map (λ a. a) (maps_acts told)
-
-  -- an act that begins no session which reads mail
-  abbrev opens_no_reader : Act → Bool
-  opens_no_reader (Opens Pop node greeting) = false
-  opens_no_reader act = true
-
-  -- the last act
-  last_act : (before : List Act) (user : List ℕ) (other : ToldMap) → acts ≡ before ++ Makes Settle HasSettled ∷ Makes (Maps user) (HasMapped user other) ∷ []
-      → ◌≡◌ {A = Act} (Makes (Maps alice) (HasMapped alice told)) (Makes (Maps user) (HasMapped user other))
-  last_act before user other are = (one_end (flat_map (λ a. a) stored_acts ++ Makes Settle HasSettled ∷ []) (before ++ Makes Settle HasSettled ∷ []) _ _
-      (are ∙ sym (append_assoc before (Makes Settle HasSettled ∷ []) (Makes (Maps user) (HasMapped user other) ∷ [])))).1
-
-  module _ (disks : List (List Record)) (named : NamesFragments disks three_members alice told) (agreed : MembersAgree disks three_members) where
-    -- whoever says that the tape ends in a map says so of these members, of alice, and of what was told
-    moved : (members : List ℕ) (user : List ℕ) (other : ToldMap) → members ≡ three_members → alice ≡ user → told ≡ other → NamesFragments disks members user other × MembersAgree disks members
-    moved members user other all_nodes same_user same_map =
-        subst (λ (m : List ℕ). NamesFragments disks m user other × MembersAgree disks m) (sym all_nodes)
-        (subst (λ (u : List ℕ). NamesFragments disks three_members u other) same_user (subst (NamesFragments disks three_members alice) same_map named), agreed)
-
-    pub agrees_where : SettledAgrees worked_plan maps_lines (maps_acts told) disks
-    agrees_where members user other ends =
-        let last = one_end (stored_lines ++ codes "settle" ∷ []) (ends.before ++ ends.settles ∷ []) _ _ (ends.are ∙ sym (append_assoc ends.before (ends.settles ∷ []) (ends.asks ∷ []))) in
-        let asked : Some (Moves (Maps alice)) ≡ Some (Moves (Maps user)) = ap tape_order last.1 ∙ ends.ask in
-        let line = one_end (stored_acts ++ (Makes Settle HasSettled ∷ []) ∷ []) (ends.settled.front ++ (Makes Settle HasSettled ∷ []) ∷ []) _ _
-        (ends.settled.split ∙ sym (append_assoc ends.settled.front ((Makes Settle HasSettled ∷ []) ∷ []) ((Makes (Maps user) (HasMapped user other) ∷ []) ∷ []))) in
-        let first = ap (λ (l : List Act). get_or l 0 (Makes (Maps alice) (HasMapped alice told))) line.1 in
-        moved members user other (opening_members worked_plan (flat_map (λ a. a) ends.settled.front) members (quiet_front (maps_acts told) ends.settled.front _ _ ends.settled.split refl) ends.settled.shown)
-        (ap user_in first) (ap map_in first)
-
-    pub owes_where : OwesSettled worked_plan disks acts
-    owes_where = record {
-      fresh = λ before behind members node greeting are.
-          let never : false ≡ true = (passes_inside opens_no_reader (before ++ Makes Settle HasSettled ∷ []) behind (Opens Pop node greeting) (opens_none before behind node greeting are)).1 in cc;
-      maps = λ before members user other are shown.
-          let same = last_act before user other are in
-          moved members user other (opening_members worked_plan before members (none_formed before (quiet_before before user other are)) shown) (ap user_in same) (ap map_in same);
-    }
-      where
-        opens_none : (before behind : List Act) (node : ℕ) (greeting : List ℕ) → acts ≡ before ++ Makes Settle HasSettled ∷ Opens Pop node greeting ∷ behind
-            → list_all opens_no_reader ((before ++ Makes Settle HasSettled ∷ []) ++ Opens Pop node greeting ∷ behind) ≡ true
-        opens_none before behind node greeting are = ap (list_all opens_no_reader) (append_assoc before (Makes Settle HasSettled ∷ []) (Opens Pop node greeting ∷ behind) ∙ sym are)
-
-        quiet_before : (before : List Act) (user : List ℕ) (other : ToldMap) → acts ≡ before ++ Makes Settle HasSettled ∷ Makes (Maps user) (HasMapped user other) ∷ [] → list_all is_quiet before ≡ true
-        quiet_before before user other are =
-            (passes_inside is_quiet before (Makes (Maps user) (HasMapped user other) ∷ []) (Makes Settle HasSettled) (ap (list_all is_quiet) (sym are))).0
-
-  -- it is not freshly ended
-  not_fresh : (disks : List (List Record)) → FreshListsAll worked_plan maps_lines (maps_acts told) disks (storer ∷ [])
-  not_fresh disks members k name session asked at ended =
-      let e = ended.ends in
-      let last = one_end (stored_lines ++ codes "settle" ∷ []) (e.before ++ e.settles ∷ e.opens ∷ e.names ∷ e.proves ∷ e.flows ∷ []) _ _
-      (e.are ∙ sym (append_assoc e.before (e.settles ∷ e.opens ∷ e.names ∷ e.proves ∷ e.flows ∷ []) (e.asks ∷ []))) in
-      let never : Some (Moves (Maps alice)) ≡ Some (Say k ended.asking) = ap tape_order last.1 ∙ e.ask in
-      absurd cc
+-- all nodes are members
+shown : ShowsMembers worked_plan (flat_map (λ a. a) stored_acts) three_members
+shown = AtOpening refl (none_formed (flat_map (λ a. a) stored_acts) refl)
 
 -- the line of the transcript
-words : node_words (1 ∷ 2 ∷ []) ≡ codes " 1 2"
+pub words : node_words (1 ∷ 2 ∷ []) ≡ codes " 1 2"
 words = ap₂ (λ (d e : List ℕ). (codes " " ++ d) ++ ((codes " " ++ e) ++ [])) digit_one digit_two
 
 abbrev line_with : List ℕ → List ℕ → List Entry
 line_with d named = Event (codes "maps " ++ codes "alice" ++ codes " at " ++ d ++ codes ":" ++ named) ∷ []
 
-shows_right : event_entries (HasMapped alice right_map) ≡ Event (codes "maps alice at 1: 1 2") ∷ []
+pub shows_right : event_entries (HasMapped alice right_map) ≡ Event (codes "maps alice at 1: 1 2") ∷ []
 shows_right = ap₂ line_with digit_one words
 
 pub maps_tape_is_met : MapsTapeIsMet
@@ -196,6 +127,6 @@ maps_tape_is_met = record {
   names = names;
   agree = agree;
   shows = shows_right;
-  owes = owes_where right_map maps_disks names agree;
-  kept = record { fresh_lists_all = not_fresh right_map maps_disks; settled_agrees = agrees_where right_map maps_disks names agree };
+  owes = owes_where stored_lines stored_acts three_members right_map shown maps_disks names agree refl;
+  kept = keeps_where stored_lines stored_acts three_members right_map shown maps_disks names agree (storer ∷ []);
 }

@@ -1,4 +1,5 @@
--- A run whose entries tell once that the cluster has settled, with no fault, and in which no session was open then: it has settled behind these lines.
+-- A run whose entries tell once that the cluster has settled, with no fault, and in which no session was open then: it has settled behind these lines. Which members
+-- its acts show is given, with what is claimed of them.
 use Rattle.std.proofs.Common.{◌≡◌, ℕ, Bool, true, not, List, [], ◌∷◌, ◌++◌, flat_map, Option, Some, refl, sym, ap, ◌∙◌, subst, codes, append_assoc, append-nil}
 use Rattle.std.specs.List.{list_all}
 use Rattle.std.proofs.lemmas.List.Concat.{flat_map-append}
@@ -15,7 +16,7 @@ use Rattle.session_model.specs.Acts.{Act}
 use Rattle.session_model.specs.Acts.Act.{Makes}
 use Rattle.session_model.specs.Turns.{Waits, turn_after_event}
 use Rattle.session_model.specs.Run.{AreHandled, count_on}
-use Rattle.fresh_sessions.specs.Acts.{nodes_to}
+use Rattle.fresh_sessions.specs.Acts.{ShowsMembers, nodes_to}
 use Rattle.fresh_sessions.specs.Acts.ShowsMembers.{AtOpening}
 use Rattle.fresh_sessions.specs.Tapes.{IsSettledBehind}
 use Rattle.fresh_sessions.specs.Kept.{IsRun}
@@ -73,10 +74,16 @@ maps_event plan lives user (HasFaulted node) may = absurd may
 abbrev pub AllEnded : List Session → Type 0
 AllEnded sessions = (count_on sessions ≡ 0) × ((j : ℕ) → Waits (session_at sessions j) → ⊥)
 
+-- acts show members of whom this is so
+abbrev pub ShowsSome : Plan → (List ℕ → Type 0) → List (List Act) → Type 0
+ShowsSome plan claim acts = (members : List ℕ) × ShowsMembers plan (flat_map (λ a. a) acts) members × claim members
+
 -- These acts have settled behind the lines before; what was done and written since is this.
-pub record HasSettledBehind (plan : Plan) (before rest : List (List ℕ)) (acts : List (List Act)) (written : List Entry) : Type 0 where
+pub record HasSettledBehind (plan : Plan) (claim : List ℕ → Type 0) (before rest : List (List ℕ)) (acts : List (List Act)) (written : List Entry) : Type 0 where
   pub since : List (List Act)
-  pub settled : IsSettledBehind plan before acts (nodes_to plan.nodes) since
+  pub members : List ℕ
+  pub claimed : claim members
+  pub settled : IsSettledBehind plan before acts members since
   pub others : List (List (List Entry))
   pub mid : List Session
   pub last : List Session
@@ -84,24 +91,35 @@ pub record HasSettledBehind (plan : Plan) (before rest : List (List ℕ)) (acts 
   pub handled : AreHandled plan (flat_map (λ a. a) settled.front ++ Makes Settle HasSettled ∷ []) mid rest since others last
   pub wrote : written ≡ flat_map all_of others
 
-module _ (plan : Plan) (before rest : List (List ℕ)) (settles : List ℕ) (front back : List Entry) (acts : List (List Act)) (is_line : tape_order settles ≡ Some (Moves Settle))
+-- where no line asks for an epoch all nodes are members
+abbrev pub AreAll : Plan → List ℕ → Type 0
+AreAll plan members = members ≡ nodes_to plan.nodes
+
+pub shows_all : (plan : Plan) (lines : List (List ℕ)) (front : List Entry) → list_all (λ line. keeps_order (tape_order line)) lines ≡ true → (first : List (List Act)) (said : List (List (List Entry)))
+    (mid : List Session) → AreHandled plan [] [] lines first said mid → front ≡ flat_map all_of said → ShowsSome plan (AreAll plan) first
+shows_all plan lines front keeps first said mid handled wrote =
+    (nodes_to plan.nodes, AtOpening refl (none_formed (flat_map (λ x. x) first) (quiet_run plan [] [] mid lines first said handled keeps)), refl)
+
+module _ (plan : Plan) (claim : List ℕ → Type 0) (before rest : List (List ℕ)) (settles : List ℕ) (front back : List Entry) (acts : List (List Act)) (is_line : tape_order settles ≡ Some (Moves Settle))
     (run : IsRun plan (before ++ settles ∷ rest) (front ++ Event (codes "settled") ∷ back) acts)
     (calm : list_all is_calm (front ++ Event (codes "settled") ∷ back) ≡ true) (once : (list_all is_other front ≡ true) × (list_all is_other back ≡ true))
-    (keeps : list_all (λ line. keeps_order (tape_order line)) before ≡ true)
+    (shows_some : (first : List (List Act)) (said : List (List (List Entry))) (mid : List Session) → AreHandled plan [] [] before first said mid → front ≡ flat_map all_of said → ShowsSome plan claim first)
     (all_ended : (sessions : List Session) → AreSessions plan before front sessions → AllEnded sessions) where
-  pub settled_behind : HasSettledBehind plan before rest acts back
+  pub settled_behind : HasSettledBehind plan claim before rest acts back
   settled_behind = by (part_handled plan [] [] run.last before (settles ∷ rest) acts run.outputs run.handled)
     where
-      by : AreParted plan [] [] run.last before (settles ∷ rest) acts run.outputs → HasSettledBehind plan before rest acts back
+      by : AreParted plan [] [] run.last before (settles ∷ rest) acts run.outputs → HasSettledBehind plan claim before rest acts back
       by parts = by_line parts.later parts.others parts.acts_are parts.outputs_are parts.follow
         where
           by_line : (later : List (List Act)) (others : List (List (List Entry))) → acts ≡ parts.first ++ later → run.outputs ≡ parts.said ++ others
-              → AreHandled plan (flat_map (λ a. a) parts.first) parts.mid (settles ∷ rest) later others run.last → HasSettledBehind plan before rest acts back
+              → AreHandled plan (flat_map (λ a. a) parts.first) parts.mid (settles ∷ rest) later others run.last → HasSettledBehind plan claim before rest acts back
           by_line [] [] acts_are outputs_are handled = absurd handled
           by_line [] (o ∷ others) acts_are outputs_are handled = absurd handled
           by_line (a ∷ since) [] acts_are outputs_are handled = absurd handled
           by_line (a ∷ since) (o ∷ others) acts_are outputs_are (next, is, more) = record {
             since = since;
+            members = some.0;
+            claimed = some.2;
             settled = record {
               front = parts.first;
               split = acts_are ∙ ap (λ (l : List Act). parts.first ++ l ∷ since) act.0;
@@ -111,7 +129,7 @@ module _ (plan : Plan) (before rest : List (List ℕ)) (settles : List ℕ) (fro
               none_open = ended.0;
               faultless = calm_run plan _ next run.last rest since others more (ap (list_all is_calm) (sym wrote) ∙ (passes_both is_calm (front ++ Event (codes "settled") ∷ []) back
                   (ap (list_all is_calm) (append_assoc front (Event (codes "settled") ∷ []) back) ∙ calm)).1);
-              shown = AtOpening refl (none_formed (flat_map (λ x. x) parts.first) (quiet_run plan [] [] parts.mid before parts.first parts.said parts.at_first keeps));
+              shown = some.1;
             };
             others = others;
             mid = next;
@@ -138,6 +156,9 @@ module _ (plan : Plan) (before rest : List (List ℕ)) (settles : List ℕ) (fro
               cut : (flat_map all_of parts.said ≡ front) × (all_of moved.others ++ flat_map all_of others ≡ back)
               cut = cut_once is_other (flat_map all_of parts.said) front (all_of moved.others ++ flat_map all_of others) back (Event (codes "settled")) (Event (codes "settled"))
                   (sym (all ∙ ap (λ (e : ClusterEvent). flat_map all_of parts.said ++ (event_entries e ++ (all_of moved.others ++ flat_map all_of others))) event_is)) refl once.0 once.1
+
+              some : ShowsSome plan claim parts.first
+              some = shows_some parts.first parts.said parts.mid parts.at_first (sym cut.0)
 
               ended : AllEnded parts.mid
               ended = all_ended parts.mid (subst (λ (e : List Entry). AreSessions plan before e parts.mid) cut.0

@@ -1,5 +1,6 @@
 pub mod FreshTape
 pub mod Members
 pub mod MapsTape
+pub mod RegroupedTape
 pub mod WrongListings
 pub mod WrongMaps

@@ -2,6 +2,7 @@
 ghost use Rattle.worked_settles.specs.Members.{MembersAreOne};
 ghost use Rattle.worked_settles.specs.FreshTape.{FreshTapeIsMet};
 ghost use Rattle.worked_settles.specs.MapsTape.{MapsTapeIsMet};
+ghost use Rattle.worked_settles.specs.RegroupedTape.{RegroupedTapeIsMet, RefusesAbsentNode};
 ghost use Rattle.worked_settles.specs.WrongListings.{RefusesMissing, RefusesTwice, RefusesOrder, RefusesDeleted};
 ghost use Rattle.worked_settles.specs.WrongMaps.{RefusesOneTooMany, RefusesOneTooFew, RefusesFalling, RefusesStranger, RefusesNobody, RefusesSilentTarget};
 
@@ -19,6 +20,12 @@ pub fn fresh_tape_is_met()
 /// that have it.
 pub fn maps_tape_is_met()
     ensures { MapsTapeIsMet }
+{}
+
+/// The premises of a mail map can be met behind a regroup: the map names both nodes that are members still,
+/// and not the third, which is down, though it has mail of the user.
+pub fn regrouped_tape_is_met()
+    ensures { RegroupedTapeIsMet }
 {}
 
 /// A listing that leaves out a message that stands does not keep the promise.
@@ -70,4 +77,10 @@ pub fn nobody_is_refused()
 /// promise, even where the map is right.
 pub fn silent_target_is_refused()
     ensures { RefusesSilentTarget }
+{}
+
+/// Behind a regroup, a map that names a node which is no member any more does not keep the promise, though the
+/// node has mail of the user.
+pub fn absent_node_is_refused()
+    ensures { RefusesAbsentNode }
 {}

@@ -4,14 +4,17 @@
 //!
 //! It is promised that a new session behind a settle lists exactly what stands, and that a mail map told
 //! behind a settle names exactly the members with mail of the user, while members agree. Here one tape
-//! meets the premises of the first promise, and one those of the second. Both promises are false of wrong
-//! listings, wrong maps and disks that disagree.
+//! meets the premises of the first promise, and two those of the second, one of them behind a regroup that
+//! left a node out. Both promises are false of wrong listings, wrong maps and disks that disagree.
 //!
 //! DESCRIPTION
 //!
 //! - `FreshTape`: two messages are told in a cluster of three nodes, it settles, and a new session lists
 //!   both (`fresh_tape_is_met`).
 //! - `MapsTape`: one message is told, the cluster settles, and is asked for the map (`maps_tape_is_met`).
+//! - `RegroupedTape`: two messages are told, node 3 goes down, node 1 forms an epoch of the other two, the
+//!   cluster settles, and is asked for the map (`regrouped_tape_is_met`). Node 3 has mail of the user on its
+//!   disk, but a map that names it is refused (`absent_node_is_refused`).
 //! - `WrongListings`: a listing that lacks a message, has one twice, has two in the wrong order, or has
 //!   one that is gone.
 //! - `WrongMaps`: a map with one node too many, one too few, or nodes that do not rise; one of a manager
@@ -29,7 +32,8 @@
 //!
 //! WHAT IT DOES NOT DO
 //!
-//! It has no code, but laws alone. On its tapes no epoch is formed, so that all nodes are members.
+//! It has no code, but laws alone. On one of its tapes an epoch is formed, by `regroup`; on the others all
+//! nodes are members. No tape forms one by `group` and `conclude`.
 #![tactic(auto)]
 
 pub mod laws;
