@@ -17,12 +17,17 @@ import sys
 CALLS = [('porcupine_server', 'porcupine'), ('drive_tape', 'drive')]
 # The records that have each promise as a field, and the fields that give its sessions and its records their meaning: a promise is
 # counted together with these. Of the sessions that take mail and of those that read it, it is counted with what it speaks of.
-KEPT = 'Rattle.session_model.specs.Kept'
+KEPT = {
+    'KeepsPromises': 'Rattle.session_model.specs.Kept',
+    'KeepsToClients': 'Rattle.session_model.specs.Kept',
+    'KeepsSettled': 'Rattle.fresh_sessions.specs.Kept',
+}
 SHOWN = [('KeepsPromises', 'holds'), ('KeepsToClients', 'shown')]
 TAKE, READ, LOGGED = ('KeepsToClients', 'take_mail'), ('KeepsToClients', 'read_mail'), ('KeepsPromises', 'logged')
 PROMISES = [
     ('Promises on mail that is taken in, fields of `KeepsToClients`', 'KeepsToClients', SHOWN + [TAKE], ['stored_stands']),
     ('Promises on mail that is read, fields of `KeepsToClients`', 'KeepsToClients', SHOWN + [READ], ['deleted_by_quit', 'shown_as_filed', 'shown_once', 'shown_are_own', 'one_content']),
+    ('Promises of a settled epoch, fields of `KeepsSettled`', 'KeepsSettled', SHOWN + [READ], ['fresh_lists_all', 'settled_agrees']),
     ('Promises on the book, fields of `KeepsPromises`', 'KeepsPromises', SHOWN + [TAKE, READ, LOGGED],
      ['acknowledged_as_told', 'acknowledged_stand', 'struck_as_marked', 'dropped_are_gone']),
 ]
@@ -140,11 +145,17 @@ def fields_of(definitions, key):
     return fields
 
 
-def rows(definitions, parts, names, modules, own, listed):
-    """A row for each named text: the definitions that it reaches."""
+def roots_of(definitions, module, text):
+    """The definitions that a text of a module names."""
+    names, modules = definitions.imports[module]
+    return {definitions.resolve(word, names, modules, module) for word in WORD.findall(text)} - {None}
+
+
+def rows(definitions, parts, listed):
+    """A row for each named list of texts, each of a module: the definitions that they reach."""
     out = ['| Clause | Definitions | Lines | Files | Crates |\n|---|---:|---:|---:|---|']
-    for name, text in parts:
-        roots = {definitions.resolve(word, names, modules, own) for word in WORD.findall(text)} - {None}
+    for name, texts in parts:
+        roots = set().union(*[roots_of(definitions, module, text) for module, text in texts])
         seen = definitions.closure(roots)
         size = sum(len(definitions.found[key][2]) for key in seen)
         files = sorted({definitions.found[key][0] for key in seen})
@@ -159,19 +170,21 @@ def rows(definitions, parts, names, modules, own, listed):
 def tables(definitions, listed):
     out = []
     for crate, call in CALLS:
-        clauses, (names, modules) = contract_of(crate, call)
+        clauses, imports = contract_of(crate, call)
+        module = f'{crate}, {call}'
+        definitions.imports[module] = imports
         out.append(f'Clauses of `{call}`, in crate `{crate}`:\n')
-        out.extend(rows(definitions, clauses, names, modules, None, listed))
-    names, modules = definitions.imports[KEPT]
+        out.extend(rows(definitions, [(name, [(module, text)]) for name, text in clauses], listed))
     listed_here = {name for _, _, _, promises in PROMISES for name in promises}
-    for record in sorted({record for _, record, _, _ in PROMISES}):
-        for name, _ in fields_of(definitions, (KEPT, record)):
+    for record in sorted(KEPT):
+        for name, _ in fields_of(definitions, (KEPT[record], record)):
             assert name in listed_here | OTHERS, f'{record}.{name} is in no table'
     for title, record, meaning, promises in PROMISES:
-        shared = '\n'.join(dict(fields_of(definitions, (KEPT, kept)))[field] for kept, field in meaning)
-        parts = [(name, text + '\n' + shared) for name, text in fields_of(definitions, (KEPT, record)) if name in promises]
         out.append(f'{title}, each together with what gives its sessions and records their meaning ({", ".join(f"`{field}`" for _, field in meaning)}):\n')
-        out.extend(rows(definitions, parts, names, modules, KEPT, listed))
+        parts = [[(KEPT[record], text)] + [(KEPT[kept], dict(fields_of(definitions, (KEPT[kept], kept)))[field]) for kept, field in meaning]
+                 for name, text in fields_of(definitions, (KEPT[record], record)) if name in promises]
+        names = [name for name, _ in fields_of(definitions, (KEPT[record], record)) if name in promises]
+        out.extend(rows(definitions, list(zip(names, parts)), listed))
     return '\n'.join(out)
 
 

@@ -1,13 +1,14 @@
 -- How a pass goes on after a turn.
 use Rattle.std.proofs.Common.{ℕ, ◌++◌, Some, refl, sym, ap, ◌∙◌}
 use Rattle.std.proofs.lemmas.List.{append_cancel_left}
-use Rattle.std.specs.Prelude.{Result}
+use Rattle.std.specs.Prelude.{Option, Result}
 use Rattle.io_edge.specs.declared.fate.Luck.{Luck}
 use Rattle.call_tickets.specs.Tells.{TellsMore}
 use Rattle.cluster_world.specs.Worlds.{book_of}
 use Rattle.node_store.specs.Disks.{View}
 use Rattle.call_tickets.specs.declared.desk.Posted.{Posted}
 use Rattle.call_tickets.specs.declared.desk.DeskFault.{DeskFault}
+use Rattle.call_tickets.specs.declared.desk.Life.{Life}
 use Rattle.cluster_world.specs.declared.fault.StepFault.{StepFault}
 use Rattle.desk_model.specs.Added.{AreQuiet}
 use Rattle.desk_model.specs.Tallies.{no_counts}
@@ -23,7 +24,9 @@ use Rattle.shard_board.specs.Worlds.{IsSoundWorld}
 use Rattle.shard_board.specs.Orders.{ordered_by, Obeys}
 use Rattle.shard_board.specs.Posts.{PostsOne}
 use Rattle.shard_board.proofs.Paged.{pass_tells}
+use Rattle.shard_board.specs.Reads.{TellsLife}
 use Rattle.board_desk.proofs.Posted.{posts_add}
+use Rattle.board_desk.proofs.Sound.{same_world_adds}
 use Rattle.board_service.specs.Disks.{EachTells}
 use Rattle.board_service.specs.Visits.{IsStill}
 use Rattle.board_service.specs.Passes.{GoesStill}
@@ -57,6 +60,12 @@ module _ {D F C : Type 0} (on : View D) (board : Board D F C) where
       → IsTurnOf on (PostsOne on decides) board before after posted → GoesStill on board before after
   post_goes decides before after posted belongs t =
       turn_goes (PostsOne on decides) before after posted t belongs (λ each sound. posts_add on decides t.old posted t.new sound t.work)
+
+  -- after a question how a node is
+  pub look_goes : (node : ℕ) (before after : BoardPass D F C) (life : Option Life) → IsPassOf on board after
+      → IsTurnOf on (TellsLife node) board before after life → GoesStill on board before after
+  look_goes node before after life belongs t =
+      turn_goes (TellsLife node) before after life t belongs (λ each sound. same_world_adds t.old.world t.new.world (ap (λ (p : Part D F C). p.world) t.work.same))
 
   -- a pass that was lent to nobody
   pub same_goes : (pass : BoardPass D F C) → IsPassOf on board pass → GoesStill on board pass pass

@@ -4,8 +4,7 @@ ghost use Rattle.std.specs.Fmt.{decimal};
 ghost use Rattle.std.specs.Option.{option_copied, option_map};
 ghost use Rattle.mail_model.specs.Lines.{ended};
 ghost use Rattle.object_model.specs.Sets.{nodes_in};
-ghost use Rattle.session_model.specs.Events.{node_words, maps_text, sum_text};
-ghost use Rattle.cluster_world.specs.Outcomes.{map_seen};
+ghost use Rattle.session_model.specs.Events.{node_words, sum_text};
 ghost use Rattle.cluster_world.specs.Sums.{sum_seen};
 ghost use Rattle.board_service.specs.ConsoleAnswers.{node_line, up_line, fault_line, refused_line, refusal_word, epoch_line, start_said, start_told, regroup_line, regroup_told, settle_line, settle_told, map_line, map_told, sum_told, order_told, answer_to};
 

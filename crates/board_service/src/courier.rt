@@ -5,9 +5,10 @@ ghost use Rattle.cluster_world.specs.declared.step.Step.TheVariants.{Push, Repor
 ghost use Rattle.shard_board.specs.Boards.{IsPassOf, IsTurnOf};
 ghost use Rattle.shard_board.specs.Posts.{PostsOne};
 ghost use Rattle.board_service.specs.Passes.{GoesStill};
-ghost use Rattle.board_service.specs.Carrying.{has_posted, WasOrdered, PushesAndReports, MayPush, PushesAfter, Carries};
+ghost use Rattle.shard_board.specs.Reads.{TellsLife};
+ghost use Rattle.board_service.specs.Carrying.{has_posted, WasOrdered, PushesAndReports, PushesTo, MayPush, PushesAfter, Carries};
 
-use call_tickets::{DeskFault, Posted};
+use call_tickets::{DeskFault, Life, Posted};
 use io_edge::{Clock, Disk, Fate};
 use mail_base::NodeNo;
 use shard_board::{Board, BoardPass, Order};
@@ -83,10 +84,61 @@ fn push_and_report<R: Wait, D: Disk, F, C>(
 )
     requires pass { IsPassOf (view_of D.seen D.faults D.clock) board.now pass.old }
     ensures goes { GoesStill (view_of D.seen D.faults D.clock) board.now pass.old pass.new }
-    ensures told { PushesAndReports (view_of D.seen D.faults D.clock) board.now pass.old pass.new }
+    ensures told { PushesAndReports (view_of D.seen D.faults D.clock) board.now to pass.old pass.new }
 {
     push(rt, alloc, board, pass, from, to);
     report(rt, alloc, board, pass, from, to);
+}
+
+// How a node is.
+fn life_of<R: Wait, D: Disk, F, C>(
+    rt: &R,
+    board: &Board<D, F, C>,
+    pass: &mut BoardPass<D, F, C>,
+    node: NodeNo,
+) -> Option<Life>
+    requires pass { IsPassOf (view_of D.seen D.faults D.clock) board.now pass.old }
+    ensures goes { GoesStill (view_of D.seen D.faults D.clock) board.now pass.old pass.new }
+    ensures turn { IsTurnOf (view_of D.seen D.faults D.clock) (TellsLife node) board.now pass.old pass.new result }
+{
+    board.is_up(rt, pass, node)
+}
+
+// Both, where the receiver is up. Whatever is sent to another is lost.
+fn push_to<R: Wait, D: Disk, F, C>(
+    rt: &R,
+    alloc: Global,
+    board: &Board<D, F, C>,
+    pass: &mut BoardPass<D, F, C>,
+    from: NodeNo,
+    to: NodeNo,
+    life: Option<Life>,
+)
+    requires pass { IsPassOf (view_of D.seen D.faults D.clock) board.now pass.old }
+    ensures goes { GoesStill (view_of D.seen D.faults D.clock) board.now pass.old pass.new }
+    ensures told { PushesTo (view_of D.seen D.faults D.clock) board.now to life pass.old pass.new }
+{
+    match life {
+        Some(_) => push_and_report(rt, alloc, board, pass, from, to),
+        None => {}
+    }
+}
+
+// Whether the receiver is up is asked first.
+fn ask_and_push<R: Wait, D: Disk, F, C>(
+    rt: &R,
+    alloc: Global,
+    board: &Board<D, F, C>,
+    pass: &mut BoardPass<D, F, C>,
+    from: NodeNo,
+    to: NodeNo,
+)
+    requires pass { IsPassOf (view_of D.seen D.faults D.clock) board.now pass.old }
+    ensures goes { GoesStill (view_of D.seen D.faults D.clock) board.now pass.old pass.new }
+    ensures push { MayPush (view_of D.seen D.faults D.clock) board.now pass.old pass.new }
+{
+    let life = life_of(rt, board, pass, to);
+    push_to(rt, alloc, board, pass, from, to, life)
 }
 
 // The node at this place in the round of so many.
@@ -109,7 +161,7 @@ fn pair_at(nodes: u8, place: u64) -> Option<(NodeNo, NodeNo)> {
     Some((from, to))
 }
 
-// The pair at this place in the round has its push and its report.
+// The pair at this place in the round has its push and its report, where the receiver is up.
 fn push_at<R: Wait, D: Disk, F, C>(
     rt: &R,
     alloc: Global,
@@ -123,7 +175,7 @@ fn push_at<R: Wait, D: Disk, F, C>(
     ensures push { MayPush (view_of D.seen D.faults D.clock) board.now pass.old pass.new }
 {
     match pair_at(nodes, place) {
-        Some((from, to)) => push_and_report(rt, alloc, board, pass, from, to),
+        Some((from, to)) => ask_and_push(rt, alloc, board, pass, from, to),
         None => {}
     }
 }
@@ -166,8 +218,8 @@ fn push_after<R: Wait, D: Disk, F, C>(
 }
 
 /// Does what fate decides of the letter of the lowest number in flight. Where there is none, the next of all pairs of nodes has its
-/// push and its report, which is no reason to go on: a node that stays down would be sent the same again and again. Answers whether
-/// a letter was looked at.
+/// push and its report, if the receiver is up. That is no reason to go on: a node that is up and answers nothing would be sent the
+/// same again and again. Answers whether a letter was looked at.
 pub(crate) fn carry_one<R: Wait, D: Disk, F: Fate, C: Clock>(
     rt: &R,
     alloc: Global,

@@ -18,6 +18,7 @@
 //! | `tests/clusters.rt`, `tests/three_nodes.rt`, `tests/crashes.rt` | several nodes: letters, stops, starts and losses |
 //! | `tests/regroups.rt` | epochs: groups that lines open and conclude, and regroups |
 //! | `tests/settles.rt`, `tests/prefixes.rt` | reports, settling, and whom managers name; a settle behind each line of a tape, against the stores |
+//! | `tests/fresh.rt`, `tests/losses.rt` | a new session behind a settle, where letters were late and nodes were lost or stopped: it lists exactly the messages that stand |
 //! | `tests/clocks.rt` | the clock that a tape sets, and the counts of the book |
 //! | `tests/faults.rt`, `tests/command_line.rt` | each part of the outside failing in turn, and other words |
 //! | `tests/word_forms.rt` | the words of the command line, and what `check` and `storm` write |

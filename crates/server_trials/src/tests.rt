@@ -10,7 +10,9 @@ mod driving;
 mod elsewhere;
 mod examples;
 mod faults;
+mod fresh;
 mod logins;
+mod losses;
 mod maildrops;
 mod messages;
 mod pieces;
@@ -73,7 +75,7 @@ struct Run {
 }
 
 // How many disks a yard of the tests has.
-const DISKS: usize = 4;
+const DISKS: usize = 5;
 
 // A yard of empty disks, of the first of which this call fails; none where it is 0.
 fn yard_of(alloc: Global, failing: u64) -> Result<MemoryYard<MemoryDisk>, AllocError> {
@@ -216,4 +218,9 @@ fn each_case(rt: &impl Abort, alloc: Global, first: &[u8], table: &[u8]) -> Resu
     }
     assert!(rt; over, "the last case does not end");
     Ok(())
+}
+
+// Runs each case of the table after the lines of these pieces.
+fn each_behind(rt: &impl Abort, alloc: Global, pieces: &[&[u8]], table: &[u8]) -> Result<(), Fail> {
+    each_case(rt, alloc, &joined(alloc, pieces)?, table)
 }

@@ -1,8 +1,7 @@
 // Rows that are reported, and clusters that settle: reports that are lost, late and repeated, members that are not there, an
 // epoch that is still on its way, and disks that fail.
-ghost use Rattle.std.specs.Prelude.{◌≤◌, ◌<◌, IfOk};
+ghost use Rattle.std.specs.Prelude.{◌≤◌, ◌<◌};
 ghost use Rattle.cluster_world.specs.Worlds.{CanMakeSteps};
-ghost use Rattle.cluster_trials.specs.Disks.{octets_told};
 
 use crate::tests::groups::four;
 use crate::tests::steps::left_of;

@@ -1,0 +1,12 @@
+pub mod Going
+pub mod Resting
+pub mod Steps
+pub mod Shown
+pub mod Named
+pub mod Epochs
+pub mod Readers
+pub mod Beginning
+pub mod Listed
+pub mod Maps
+pub mod Parts
+pub mod Chain

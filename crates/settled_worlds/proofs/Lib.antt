@@ -1,0 +1,13 @@
+pub mod Alike
+pub mod Members
+pub mod Carrying
+pub mod Regrouping
+pub mod Parted
+pub mod Formings
+pub mod Resting
+pub mod Arriving
+pub mod Telling
+pub mod Readers
+pub mod Reading
+pub mod Mapping
+pub mod Owed

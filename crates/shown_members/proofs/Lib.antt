@@ -1,0 +1,4 @@
+pub mod Onward
+pub mod Shows
+pub mod Regrouped
+pub mod Numbering

@@ -1,0 +1,5 @@
+pub mod FreshTape
+pub mod Members
+pub mod MapsTape
+pub mod WrongListings
+pub mod WrongMaps
