@@ -33,7 +33,6 @@ pub mod Wholes
 pub mod LedSettled
 pub mod ReadersUp
 pub mod Settled
-pub mod Later
 pub mod Kept
 pub mod Clocks
 pub mod Drives

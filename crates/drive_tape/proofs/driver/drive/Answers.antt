@@ -5,7 +5,7 @@ use Rattle.cluster_world.proofs.Owed.{world_owes}
 use Rattle.drive_tape.proofs.Clusters.{at_plan}
 use Rattle.drive_tape.proofs.Clocks.{on_time}
 use Rattle.drive_tape.proofs.Drives.{progress_start, goes_on, stops}
-use Rattle.drive_tape.proofs.Later.{world_owes_settled}
+use Rattle.settled_worlds.proofs.Owed.{world_owes_settled}
 use Rattle.drive_tape.proofs.driver.drive.Goals as goal
 
 pub loop-handled-init : goal.loop-handled-init
