@@ -7,8 +7,8 @@
 It asserts nothing, and needs valgrind. Three nodes are the members while messages of 1 KiB come, each of which is kept by one
 of them; then a fourth is let in, and reads. Sessions there log in one after another; one reads each message by RETR, or marks
 each by DELE and quits. Behind each line that waits for letters stands `flow`. A row has what the run takes longer than the same
-tape without these lines, a message: the instructions of one login, how many octets more the process had at its peak, and the
-microseconds of a RETR and of a deletion, in the median of some rounds.
+tape without these lines, a message: the instructions of one login, of a RETR and of a deletion, and how many octets more the
+process had at its peak as it logged in, in the median of some rounds.
 """
 
 import os
@@ -77,27 +77,21 @@ def timed(*parts):
         return run(path)
 
 
-def longer(messages, behind, before):
-    """What the lines behind take longer than those before them: microseconds and octets a message, and the exit status."""
-    seconds, octets = [], []
-    for _ in range(ROUNDS):
-        short, low, _ = timed(stored(messages), before)
-        whole, high, status = timed(stored(messages), behind)
-        seconds.append(whole - short)
-        octets.append((high - low) * 1024)
-    return statistics.median(seconds) / messages * 1e6, statistics.median(octets) / messages, status
+def grown(messages):
+    """How many octets a message the process had more at its peak where one logs in."""
+    octets = [timed(stored(messages), [LOGIN])[1] - timed(stored(messages))[1] for _ in range(ROUNDS)]
+    return statistics.median(octets) * 1024 / messages
 
 
 def main():
     """Prints the table."""
-    print(f"{'messages':>8} {'login instr.':>12} {'octets':>7} {'RETR us':>9} {'delete us':>10} status")
+    print(f"{'messages':>8} {'login':>7} {'RETR':>8} {'deletion':>8} {'octets':>7}")
     for messages in MESSAGES:
         tape = b"".join(stored(messages))
-        entered = (counted(tape + LOGIN) - counted(tape)) / messages
-        _, memory, _ = longer(messages, [LOGIN], [])
-        read, _, status = longer(messages, reading(messages), [LOGIN])
-        delete, _, ended = longer(messages, deleting(messages), [LOGIN])
-        print(f"{messages:>8,} {entered:>12,.0f} {memory:>7.0f} {read:>9.1f} {delete:>10.1f} {status} {ended}")
+        alone, entered = counted(tape), counted(tape + LOGIN)
+        read = counted(tape + b"".join(reading(messages))) - entered
+        deleted = counted(tape + b"".join(deleting(messages))) - entered
+        print(f"{messages:>8,} {(entered - alone) / messages:>7,.0f} {read / messages:>8,.0f} {deleted / messages:>8,.0f} {grown(messages):>7.0f}")
 
 
 if __name__ == "__main__":
